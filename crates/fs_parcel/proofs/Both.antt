@@ -167,16 +167,19 @@ all_fail p [] h = refl
 all_fail p (r ∷ rs) h = ap (λ b. cond b (r ∷ filter p rs) (filter p rs)) (h r (inl refl)) ∙ all_fail p rs (λ x i. h x (inr i))
 
 -- those of both tables that are off modes are those of the one, and those on modes of the other
-pub plain_part : (plain modes : List Row) → IsTable plain → IsModeTable modes → is_ordered (in_one_list plain modes) ≡ true → rows_off_modes (in_one_list plain modes) ≡ plain
+pub plain_part : (plain modes : List Row) → IsTable plain → IsModeTable modes → is_ordered (in_one_list plain modes) ≡ true
+    → rows_off_modes (in_one_list plain modes) ≡ plain
 plain_part plain modes t u o =
     filter_with_rows is_off_modes modes plain o
     ∙ ap (λ rows. with_rows rows (filter is_off_modes plain)) (all_fail is_off_modes modes (λ r i. u.on_modes r i))
     ∙ all_pass is_off_modes plain t.off_modes
 
-pub modes_part : (plain modes : List Row) → IsTable plain → IsModeTable modes → is_ordered (in_one_list plain modes) ≡ true → rows_on_modes (in_one_list plain modes) ≡ modes
+pub modes_part : (plain modes : List Row) → IsTable plain → IsModeTable modes → is_ordered (in_one_list plain modes) ≡ true
+    → rows_on_modes (in_one_list plain modes) ≡ modes
 modes_part plain modes t u o =
     filter_with_rows (λ r. not (is_off_modes r)) modes plain o
-    ∙ ap (with_rows (filter (λ r. not (is_off_modes r)) modes)) (all_fail (λ r. not (is_off_modes r)) plain (λ r i. ap not (t.off_modes r i)))
+    ∙ ap (with_rows (filter (λ r. not (is_off_modes r)) modes))
+    (all_fail (λ r. not (is_off_modes r)) plain (λ r i. ap not (t.off_modes r i)))
     ∙ ap (λ rows. with_rows rows []) (all_pass (λ r. not (is_off_modes r)) modes (λ r i. ap not (u.on_modes r i)))
     ∙ alone modes u.ordered
 
@@ -258,15 +261,18 @@ after_plain test more plain modes t a = sym (filter_with_rows is_off_modes more 
     ∙ ap (with_rows (rows_off_modes more)) (filter_swap is_off_modes test (in_one_list plain modes) ∙ ap (filter test) (plain_part plain modes t.0 t.1.0 t.1.1.ordered)))
 
 pub after_modes : (test : Row → Bool) (more plain modes : List Row) → AreBoth plain modes → AreRows (after test more plain modes) → with_rows (rows_on_modes more) (filter test modes) ≡ rows_on_modes (after test more plain modes)
-after_modes test more plain modes t a = sym (filter_with_rows (λ r. not (is_off_modes r)) more (filter test (in_one_list plain modes)) a.ordered
+after_modes test more plain modes t a =
+    sym (filter_with_rows (λ r. not (is_off_modes r)) more (filter test (in_one_list plain modes)) a.ordered
     ∙ ap (with_rows (rows_on_modes more)) (filter_swap (λ r. not (is_off_modes r)) test (in_one_list plain modes) ∙ ap (filter test) (modes_part plain modes t.0 t.1.0 t.1.1.ordered)))
 
 -- each table takes its part of them
 pub takes_plain : (test : Row → Bool) (more plain modes : List Row) → AreBoth plain modes → AreRows (after test more plain modes) → IsTable (with_rows (rows_off_modes more) (filter test plain))
-takes_plain test more plain modes t a = subst IsTable (sym (after_plain test more plain modes t a)) (plain_table (after test more plain modes) a)
+takes_plain test more plain modes t a =
+    subst IsTable (sym (after_plain test more plain modes t a)) (plain_table (after test more plain modes) a)
 
 pub takes_modes : (test : Row → Bool) (more plain modes : List Row) → AreBoth plain modes → AreRows (after test more plain modes) → IsModeTable (with_rows (rows_on_modes more) (filter test modes))
-takes_modes test more plain modes t a = subst IsModeTable (sym (after_modes test more plain modes t a)) (modes_table (after test more plain modes) a)
+takes_modes test more plain modes t a =
+    subst IsModeTable (sym (after_modes test more plain modes t a)) (modes_table (after test more plain modes) a)
 
 -- and both make all
 pub takes_all : (test : Row → Bool) (more plain modes : List Row) → AreBoth plain modes → AreRows (after test more plain modes) → in_one_list (with_rows (rows_off_modes more) (filter test plain)) (with_rows (rows_on_modes more) (filter test modes)) ≡ after test more plain modes

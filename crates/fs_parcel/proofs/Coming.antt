@@ -54,7 +54,8 @@ new_parts rows plain modes (m ∷ ms) h =
     ∙ ap (λ b. test m || b) (h test)
     ∙ twice (test m) (list_any test plain) (list_any test modes)
     ∙ sym (ap (λ b. b || list_any test (with_row m modes)) (any_put test (λ r. no_before m.no r.no) m plain) ∙ ap (λ b. (test m || list_any test plain) || b) (any_put test (λ r. no_before m.no r.no) m modes))))
-    ∙ shared (list_any (has_no m.no) plain) (list_any (has_no m.no) modes) (are_new (with_row m plain) ms) (are_new (with_row m modes) ms) where
+    ∙ shared (list_any (has_no m.no) plain) (list_any (has_no m.no) modes) (are_new (with_row m plain) ms)
+    (are_new (with_row m modes) ms) where
       twice : (a b c : Bool) → (a || (b || c)) ≡ ((a || b) || (a || c))
       twice true b c = refl
       twice false b c = refl

@@ -16,7 +16,8 @@ use Rattle.fs_parcel.proofs.Both.{all_behind, leads, leads_on, ordered_before}
 -- ## The first of two lists in order
 
 -- where the other comes first, so it does of all
-first_plain : (x : Row) (xs ys : List Row) → is_first (x ∷ xs) ys ≡ true → is_ordered ys ≡ true → in_one_list (x ∷ xs) ys ≡ x ∷ in_one_list xs ys
+first_plain : (x : Row) (xs ys : List Row) → is_first (x ∷ xs) ys ≡ true → is_ordered ys ≡ true
+    → in_one_list (x ∷ xs) ys ≡ x ∷ in_one_list xs ys
 first_plain x xs [] h o = refl
 first_plain x xs (y ∷ ys) h o = all_behind x (y ∷ ys) xs (leads_on x y ys h (first (leads y ys) (is_ordered ys) o))
 
@@ -64,8 +65,10 @@ from_modes y xs ys f h =
     let e = last_first ys y in
     let k : is_first (reverse xs) (y ∷ reverse ys) ≡ false = ap (is_first (reverse xs)) (sym e) ∙ h in
     let o : is_ordered (y ∷ reverse ys) ≡ true = ap is_ordered (sym e) ∙ f.modes_falls in
-    let a : is_ordered (in_one_list (reverse xs) (y ∷ reverse ys)) ≡ true = ap (λ l. is_ordered (in_one_list (reverse xs) l)) (sym e) ∙ f.all in
-    let next : both_of xs (ys ++ y ∷ []) ≡ y ∷ both_of xs ys = ap (in_one_list (reverse xs)) e ∙ first_modes y (reverse xs) (reverse ys) k o a in
+    let a : is_ordered (in_one_list (reverse xs) (y ∷ reverse ys)) ≡ true =
+    ap (λ l. is_ordered (in_one_list (reverse xs) l)) (sym e) ∙ f.all in
+    let next : both_of xs (ys ++ y ∷ []) ≡ y ∷ both_of xs ys =
+    ap (in_one_list (reverse xs)) e ∙ first_modes y (reverse xs) (reverse ys) k o a in
     record {
       falling = record {
         plain_falls = f.plain_falls;

@@ -12,13 +12,15 @@ use Rattle.fs_parcel.proofs.Both.{AreBoth, after, filtered_both, filtered_rows, 
 -- what came stands in both tables
 pub came_both : (more plain modes : List Row) → AreBoth plain modes → AreRows (with_rows more (in_one_list plain modes)) → AreRows (in_one_list (with_rows (rows_off_modes more) plain) (with_rows (rows_on_modes more) modes))
 came_both more plain modes t a =
-    let b : AreRows (after (is_live 0 1) more plain modes) = subst (λ rows. AreRows (with_rows more rows)) (sym (all_live (in_one_list plain modes))) a in
+    let b : AreRows (after (is_live 0 1) more plain modes) =
+    subst (λ rows. AreRows (with_rows more rows)) (sym (all_live (in_one_list plain modes))) a in
     let d : AreRows (in_one_list (with_rows (rows_off_modes more) (filter (is_live 0 1) plain)) (with_rows (rows_on_modes more) (filter (is_live 0 1) modes))) = (taken (is_live 0 1) more plain modes t b).1.1 in
     let e : AreRows (in_one_list (with_rows (rows_off_modes more) plain) (with_rows (rows_on_modes more) (filter (is_live 0 1) modes))) = subst (λ rows. AreRows (in_one_list (with_rows (rows_off_modes more) rows) (with_rows (rows_on_modes more) (filter (is_live 0 1) modes)))) (all_live plain) d in
     subst (λ rows. AreRows (in_one_list (with_rows (rows_off_modes more) plain) (with_rows (rows_on_modes more) rows))) (all_live modes) e
 
 -- what passes a test stays in both tables
-pub passed_both : (test : Row → Bool) (plain modes : List Row) → AreBoth plain modes → AreRows (in_one_list (filter test plain) (filter test modes))
+pub passed_both : (test : Row → Bool) (plain modes : List Row) → AreBoth plain modes
+    → AreRows (in_one_list (filter test plain) (filter test modes))
 passed_both test plain modes t = subst AreRows (sym (filtered_both test plain modes t)) (filtered_rows test (in_one_list plain modes) t.1.1)
 
 -- what passes a test stays, or all does

@@ -67,5 +67,6 @@ all_given rows = all_pass (is_on_given [] (([], true) ∷ [])) rows (λ r i. ref
 -- ## What that makes of tables
 
 -- no two rows of them conflict plainly
-pub both_rows : (plain modes : List Row) → IsTable plain → IsModeTable modes → are_one_list plain modes ≡ true → AreRows (in_one_list plain modes)
+pub both_rows : (plain modes : List Row) → IsTable plain → IsModeTable modes → are_one_list plain modes ≡ true
+    → AreRows (in_one_list plain modes)
 both_rows plain modes t u o = record { ordered = o; free = plain_are_enough (in_one_list plain modes) (subst NoPlainConflict (sym (plain_part plain modes t u o)) t.free) }

@@ -68,7 +68,8 @@ pub(crate) fn merged(alloc: Global, plain: List<Row>, modes: List<Row>) -> Resul
 /// Takes the row of the least number out of two tables in falling order.
 fn least(plain: &mut Vec<Row>, modes: &mut Vec<Row>) -> Option<Row>
     requires { AreFalling plain.old.items modes.old.items }
-    ensures taken { IsLeastTaken result plain.old.items modes.old.items plain.new.items modes.new.items }
+    ensures taken { IsLeastTaken result plain.old.items modes.old.items
+        plain.new.items modes.new.items }
     ensures fewer { IsSome result →
         vec_len plain.new + vec_len modes.new < vec_len plain.old + vec_len modes.old }
 {

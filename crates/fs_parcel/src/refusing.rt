@@ -26,7 +26,8 @@ pub fn refusal(
     through: Option<PathNo>,
 ) -> Result<Option<MoveError>, Memory>
     ensures { IfOk result (λ why. why ≡
-        move_refusal records.now (in_one_list rows.now modes.now) map.now me prefix.now to through) }
+        move_refusal records.now (in_one_list rows.now modes.now) map.now me prefix.now to
+        through) }
 {
     let (listed, server) = map.owner(prefix);
     if server != me {

@@ -61,7 +61,8 @@ step_there w k turn now e s post there tied = ap₂ (λ (a : Option Core) (b : O
 
 pub own_after : (r : Result Outcome CoreError) (w new : Served) (k : ℕ) (turn : Bool) (now : ℕ) (e : ServerEvent) (s : Core) (post : Links) → slice_get w.servers k ≡ Some s → slice_get w.posts k ≡ Some post
     → IsOwn (length w.servers) e → IsLinked w
-    → IfOk r (λ outcome. world_left outcome new ≡ server_step k turn now e w) → OnOk r (FitsDown (step s now e).out.send) → OnOk r (IsLinked new)
+    → IfOk r (λ outcome. world_left outcome new ≡ server_step k turn now e w) → OnOk r (FitsDown (step s now e).out.send)
+    → OnOk r (IsLinked new)
 own_after r w new k turn now e s post there tied own h is fits =
     linked_after r new (server_step k turn now e w) (FitsDown (step s now e).out.send)
     (λ fit none.

@@ -30,7 +30,8 @@ with_state_at (Ok o) w s state journal packets x e = ap (λ (y : SessionStepped)
 with_state_at (Err o) w s state journal packets x e = tt
 
 -- where the call found all of it and left it so, the world is as it was
-pub with_state_back : (r : Result Outcome CoreError) (w : Served) (s : Session) (old new : SessionState) (journal : List Item) (packets : Packets)
+pub with_state_back : (r : Result Outcome CoreError) (w : Served) (s : Session) (old new : SessionState) (journal : List Item)
+    (packets : Packets)
     → Some old ≡ get w.sessions s.0 → OnErr r (session_found new journal packets ≡ session_found old w.journal w.packets) → OnErr r (with_state w s new journal packets ≡ w)
 with_state_back (Ok o) w s old new journal packets at e = tt
 with_state_back (Err o) w s old new journal packets at e =

@@ -210,7 +210,8 @@ all_say (e ∷ es) before now k who x sessions in_flight next known =
     let y = taking k now e x in
     let more = all_said (Some who) (Some (Server k)) (server_notes now es y.server) in
     let first = taken_says before now (Some who) k x.server e x.sessions (next_from k who e sessions in_flight next.0) known in
-    let then = all_say es (before ++ new) now k who y (sessions_without k who sessions) (flying_without k who in_flight) next.1 first.known in
+    let then =
+    all_say es (before ++ new) now k who y (sessions_without k who sessions) (flying_without k who in_flight) next.1 first.known in
     subst (λ (ss : List Said). Says before ss (taking_all k now es y).sessions) (ap (λ (ss : List Said). ss ++ more) (append-nil (said_in (Some who) (Some (Server k)) said)))
     (record {
       caused = caused_append before new more first.caused then.caused;
@@ -225,10 +226,12 @@ heard_says_there x [] before now k who y sessions in_flight next known =
       | true ↦ record { caused = tt; known = all_more before [] y.sessions known }
       | false ↦ record { caused = tt; known = all_more before [] y.sessions known }
     ]
-heard_says_there x (e ∷ es) before now k who y sessions in_flight next known = all_say (e ∷ es) before now k who y sessions in_flight next known
+heard_says_there x (e ∷ es) before now k who y sessions in_flight next known =
+    all_say (e ∷ es) before now k who y sessions in_flight next known
 
 -- messages of sessions are on their way no more
-one_gone : (before : List Said) (k : ℕ) (who : Peer) (sessions : SessionStates) → AreKnown before sessions → AreKnown before (sessions_without k who sessions)
+one_gone : (before : List Said) (k : ℕ) (who : Peer) (sessions : SessionStates) → AreKnown before sessions
+    → AreKnown before (sessions_without k who sessions)
 one_gone before k (Server j) sessions h = h
 one_gone before k (Client s) sessions h = at (get sessions s.0) refl
   where
@@ -238,7 +241,8 @@ one_gone before k (Client s) sessions h = at (get sessions s.0) refl
 
 gone_known : {Y : Type 0} (before : List Said) (k : ℕ) (who : Peer) (ys : List Y) (sessions : SessionStates) → AreKnown before sessions → AreKnown before (sessions_without_each k who ys sessions)
 gone_known before k who [] sessions h = h
-gone_known before k who (y ∷ ys) sessions h = gone_known before k who ys (sessions_without k who sessions) (one_gone before k who sessions h)
+gone_known before k who (y ∷ ys) sessions h =
+    gone_known before k who ys (sessions_without k who sessions) (one_gone before k who sessions h)
 
 -- ## Each event
 
@@ -257,7 +261,8 @@ module _ (before : List Said) (w : Served) (h : AreKnown before w.sessions) (now
 
     -- the session's state is this, which is known behind what is said
     sits : (new : List Said) (next : SessionState) → AllCaused before new → IsKnown (before ++ new) s next → Says before new (insert w.sessions s.0 next)
-    sits new next caused k = record { caused = caused; known = known_put (before ++ new) w.sessions s next (all_more before new w.sessions h) k }
+    sits new next caused k =
+        record { caused = caused; known = known_put (before ++ new) w.sessions s next (all_more before new w.sessions h) k }
 
     still_coming : (new : List Said) (down : List (ℕ × Answer)) → ((m : ℕ × Answer) → In m down → In m state.down) → (m : ℕ × Answer) → In m down → WasGiven (before ++ new) s m.1
     still_coming new down few m i = (all_more before new w.sessions h s state at).coming m (few m i)

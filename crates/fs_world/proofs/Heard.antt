@@ -18,7 +18,8 @@ use Rattle.fs_world.specs.declared.servers.session_state.SessionState.{SessionSt
 use Rattle.fs_world.proofs.LinkedLists.{found_joined}
 
 -- a question of the session
-pub first_question : (k : ℕ) (s : Session) (state : SessionState) (j : Joined) (js : List Joined) → AreFirstOf (j ∷ js) (ups_of k (Some state))
+pub first_question : (k : ℕ) (s : Session) (state : SessionState) (j : Joined) (js : List Joined)
+    → AreFirstOf (j ∷ js) (ups_of k (Some state))
     → (m : ℕ × ClientMsg) × (find (is_with k) state.up ≡ Some m) × (event_heard (Client s) (j ∷ js) ≡ Some (FromClient s m.1)) × FitsMessage (msg.Client m.1)
 first_question k s state j js f = at (find (is_with k) state.up) refl
   where
@@ -33,7 +34,8 @@ first_question k s state j js f = at (find (is_with k) state.up) refl
         (m, e, ap (event_of (Client s)) (sent_read j (msg.Client m.1) here.0.0 here.0.1), here.0.1)
 
 -- a message of another server
-pub first_flying : (k i : ℕ) (in_flight : List InFlight) (j : Joined) (js : List Joined) → AreFirstOf (j ∷ js) (flying_between i k in_flight)
+pub first_flying : (k i : ℕ) (in_flight : List InFlight) (j : Joined) (js : List Joined)
+    → AreFirstOf (j ∷ js) (flying_between i k in_flight)
     → (f : InFlight) × (find (is_between i k) in_flight ≡ Some f) × (event_heard (Server i) (j ∷ js) ≡ Some (FromPeer i f.message))
 first_flying k i in_flight j js f = at (find (is_between i k) in_flight) refl
   where

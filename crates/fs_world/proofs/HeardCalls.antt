@@ -53,7 +53,8 @@ ran_alone s c x down state journal packets = λ i. left s x (listed_up x.send st
 pub heard_as_one : (now : ℕ) (s : Session) (k : ℕ) (from : Option Peer) (h : Heard) (state : SessionState) (journal : List Item) (packets : Packets) → length h.joined ≤ 1
     → client_heard now s k from h state journal packets ≡ client_hears_one now s k from h (answer_heard h.joined) state journal packets
 heard_as_one now s k from h state journal packets few =
-    ap (λ (x : ClientRun). session_ran s x state.down state journal packets) (client_of_one s now (Server k) from state.post h state.client few)
+    ap (λ (x : ClientRun). session_ran s x state.down state journal packets)
+    (client_of_one s now (Server k) from state.post h state.client few)
     ∙ ran_alone s state.client (client_took now (Server k) from h (record { client = state.client; post = state.post })) state.down state journal packets
 
 -- ## Several

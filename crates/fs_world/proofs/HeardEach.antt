@@ -153,7 +153,8 @@ state_heard s now k from answers notes state journal packets = record {
   state = session_after now k answers (post_due state.post false from).links state;
   journal = journal;
   packets = with_sent (post_due state.post false from).sent packets;
-  outcome = record { who = Some (Client s); notes = notes; sent = numbers_from (length packets.sent) (post_due state.post false from).sent };
+  outcome =
+      record { who = Some (Client s); notes = notes; sent = numbers_from (length packets.sent) (post_due state.post false from).sent };
   spent = None;
 }
 

@@ -98,11 +98,13 @@ all_says (a ∷ answers) before sessions h now from s state at k post next =
     let all = session_after now k (a ∷ answers) post state in
     let more = all_said from who (notes_all now k answers one.client) in
     let first = next_says before sessions h now from s state at k post a next.0 in
-    let then = all_says answers (before ++ new) (insert sessions s.0 one) first.known now from s one (got_here sessions s one) k post next.1 in
+    let then =
+    all_says answers (before ++ new) (insert sessions s.0 one) first.known now from s one (got_here sessions s one) k post next.1 in
     subst (λ (said : List Said). Says before said (insert sessions s.0 all)) (ap (λ (said : List Said). said ++ more) (append-nil (said_in from who note_of)))
     (subst (λ (m : SessionStates). Says before (new ++ more) m) (put_again sessions s one all) (record {
       caused = caused_append before new more first.caused then.caused;
-      known = subst (λ (said : List Said). AreKnown said (insert (insert sessions s.0 one) s.0 all)) (append_assoc before new more) then.known;
+      known =
+          subst (λ (said : List Said). AreKnown said (insert (insert sessions s.0 one) s.0 all)) (append_assoc before new more) then.known;
     }))
 
 -- of what a packet gave

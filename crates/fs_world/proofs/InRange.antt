@@ -44,15 +44,18 @@ all_of P (y ∷ ys) f = (f y (inl refl), all_of P ys (λ x i. f x (inr i)))
 -- ## What the links carry
 
 module _ (w : Served) (h : IsLinked w) where
-  ups_fit : (s : Session) (state : SessionState) (m : ℕ × ClientMsg) → get w.sessions s.0 ≡ Some state → In m state.up → IsInRange (msg.Client m.1)
+  ups_fit : (s : Session) (state : SessionState) (m : ℕ × ClientMsg) → get w.sessions s.0 ≡ Some state → In m state.up
+      → IsInRange (msg.Client m.1)
   ups_fit s state m at i =
       let q = posts_there w h m.0 ((h.sessions s state at).up m i) in
       let way = (h.ties.pairs (Client s) (Server m.0) state.post q.0 refl (ap state_post at) q.1).way in
       each_of IsInRange (ups_of m.0 (get w.sessions s.0)) way.fits (msg.Client m.1)
       (subst (λ (o : Option SessionState). In (msg.Client m.1) (ups_of m.0 o)) (sym at)
-      (In-mapped (λ (x : ℕ × ClientMsg). msg.Client x.1) m (filter (is_with m.0) state.up) (In-kept (is_with m.0) m state.up i (itself m.0))))
+      (In-mapped (λ (x : ℕ × ClientMsg). msg.Client x.1) m (filter (is_with m.0) state.up)
+      (In-kept (is_with m.0) m state.up i (itself m.0))))
 
-  downs_fit : (s : Session) (state : SessionState) (m : ℕ × Answer) → get w.sessions s.0 ≡ Some state → In m state.down → IsInRange (msg.Answer m.1)
+  downs_fit : (s : Session) (state : SessionState) (m : ℕ × Answer) → get w.sessions s.0 ≡ Some state → In m state.down
+      → IsInRange (msg.Answer m.1)
   downs_fit s state m at i =
       let q = posts_there w h m.0 ((h.sessions s state at).down m i).0 in
       let way = (h.ties.pairs (Server m.0) (Client s) q.0 state.post refl q.1 (ap state_post at)).way in
@@ -106,7 +109,8 @@ down_put sessions t old x y s at h = either (same_peer (Client s) (Client t)) re
         }
     either false e = record { state = h.state; at = got_there sessions t s new e ∙ h.at; among = h.among }
 
-one_stays : (k : ℕ) (m : Peer × Msg) (sessions : SessionStates) (s : Session) (y : ℕ × Answer) → HasDown sessions s y → HasDown (with_down k m sessions) s y
+one_stays : (k : ℕ) (m : Peer × Msg) (sessions : SessionStates) (s : Session) (y : ℕ × Answer) → HasDown sessions s y
+    → HasDown (with_down k m sessions) s y
 one_stays k (Client t, msg.Answer a) sessions s y h = at (get sessions t.0) refl
   where
     at : (o : Option SessionState) → get sessions t.0 ≡ o → HasDown (with_down_at o t.0 (k, a) sessions) s y

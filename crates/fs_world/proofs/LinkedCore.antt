@@ -122,7 +122,8 @@ module _ (w : Served) (k : ℕ) (few : k < length w.servers) (h : IsLinked w) wh
   there : k < length w.posts
   there = subst (λ (n : ℕ). k < n) (sym h.posts) few
 
-  heard_there : (x : ServerStepped) (heard : Option Peer) → IsOther server_count x.sessions k heard → IsHeard (serving k x w) (Server k) heard
+  heard_there : (x : ServerStepped) (heard : Option Peer) → IsOther server_count x.sessions k heard
+      → IsHeard (serving k x w) (Server k) heard
   heard_there x None of = tt
   heard_there x (Some (Client s)) of = ((of.0.post, ap state_post of.1), refl)
   heard_there x (Some (Server j)) of = let q = posts_there w h j of.0 in ((q.0, other_post w k there x j of.1 ∙ q.1), of.1)
@@ -168,7 +169,8 @@ module _ (w : Served) (k : ℕ) (few : k < length w.servers) (h : IsLinked w) wh
   flying_carried sessions ((Client s, msg.Peer c) ∷ xs) sent f i = absurd sent.0
   flying_carried sessions ((Server to, msg.Answer a) ∷ xs) sent f i = absurd sent.0
   flying_carried sessions ((Server to, msg.Client c) ∷ xs) sent f i = absurd sent.0
-  flying_carried sessions ((Server to, msg.Peer m) ∷ xs) sent f (inl e) = subst (λ (y : InFlight). IsCarried server_count sessions y) (sym e) sent.0
+  flying_carried sessions ((Server to, msg.Peer m) ∷ xs) sent f (inl e) =
+      subst (λ (y : InFlight). IsCarried server_count sessions y) (sym e) sent.0
   flying_carried sessions ((Server to, msg.Peer m) ∷ xs) sent f (inr i) = flying_carried sessions xs sent.1 f i
 
   -- its core takes the step, and what that sends is on its way
@@ -216,7 +218,8 @@ module _ (w : Served) (k : ℕ) (few : k < length w.servers) (h : IsLinked w) wh
       let then = due_goes x false replied note.None spent of g in
       record { tied = then.tied; server = then.server; sessions = then.sessions; in_flight = then.in_flight; joined = then.joined }
 
-  of_other : (from : Peer) (p : Packet) → IsOther server_count w.sessions k (Some from) → IsOther server_count w.sessions k (heard_in from p)
+  of_other : (from : Peer) (p : Packet) → IsOther server_count w.sessions k (Some from)
+      → IsOther server_count w.sessions k (heard_in from p)
   of_other from p of = either (is_some p.body)
     where
       either : (b : Bool) → IsOther server_count w.sessions k (cond b (Some from) None)
@@ -260,10 +263,12 @@ server_receive_first w k post from p e x h =
     first_of (Server k) from post g.from.0 p w e g.from.1 (other_way from (Server k) g.apart) (packet_of w from (Server k) g.from.0 post p g.from.1 e x h) h.ties
 
 -- the session that has these links
-session_there : (w : Served) (s : Session) (q : Links) → state_post (get w.sessions s.0) ≡ Some q → (state : SessionState) × (get w.sessions s.0 ≡ Some state)
+session_there : (w : Served) (s : Session) (q : Links) → state_post (get w.sessions s.0) ≡ Some q
+    → (state : SessionState) × (get w.sessions s.0 ≡ Some state)
 session_there w s q e = at (get w.sessions s.0) refl e
   where
-    at : (o : Option SessionState) → get w.sessions s.0 ≡ o → state_post o ≡ Some q → (state : SessionState) × (get w.sessions s.0 ≡ Some state)
+    at : (o : Option SessionState) → get w.sessions s.0 ≡ o → state_post o ≡ Some q
+        → (state : SessionState) × (get w.sessions s.0 ≡ Some state)
     at None i f = absurd (cc)
     at (Some state) i f = (state, i)
 
@@ -285,7 +290,8 @@ sessions_gone k s (j ∷ js) sessions state is =
     ∙ sessions_gone k s js (insert sessions s.0 left) left (got_here sessions s left)
     ∙ sym (ap (λ (o : Option SessionState). sessions_without_each k (Client s) js (without_up k o s.0 sessions)) is)
 
-flying_stays : (k : ℕ) (s : Session) (js : List Joined) (in_flight : List InFlight) → in_flight ≡ flying_without_each k (Client s) js in_flight
+flying_stays : (k : ℕ) (s : Session) (js : List Joined) (in_flight : List InFlight)
+    → in_flight ≡ flying_without_each k (Client s) js in_flight
 flying_stays k s [] in_flight = refl
 flying_stays k s (j ∷ js) in_flight = flying_stays k s js in_flight
 
@@ -314,12 +320,15 @@ gone_going w k c post (Client s) p i e x h =
     let gone : IsGoing w k (record y { post = a.links; sessions = insert w.sessions s.0 left }) = record {
       tied = server_hears_session w k (within w.posts k post e) s state p y is (packet_of w (Client s) (Server k) state.post post p (ap state_post is) e x h) start.tied;
       server = served_then n w.sessions (insert w.sessions s.0 left) k c (λ t q. joined_still w.sessions s t left q) start.server;
-      sessions = all_put (IsSoundState n) w.sessions s left (up_sound n s state a.heard.joined (is_with k) (h.sessions s state is)) h.sessions;
-      in_flight = λ f j. carried_then n w.sessions (insert w.sessions s.0 left) f (λ t q. joined_still w.sessions s t left q) (h.in_flight f j);
+      sessions =
+          all_put (IsSoundState n) w.sessions s left (up_sound n s state a.heard.joined (is_with k) (h.sessions s state is)) h.sessions;
+      in_flight =
+          λ f j. carried_then n w.sessions (insert w.sessions s.0 left) f (λ t q. joined_still w.sessions s t left q) (h.in_flight f j);
       joined = λ t q. joined_still w.sessions s t left q;
     } in
     subst (λ (fs : List InFlight). IsGoing w k (record y { post = a.links; sessions = sessions_without_each k (Client s) a.heard.joined w.sessions; in_flight = fs })) (flying_stays k s a.heard.joined w.in_flight)
-    (subst (λ (m : SessionStates). IsGoing w k (record y { post = a.links; sessions = m })) (sessions_gone k s a.heard.joined w.sessions state is) gone)
+    (subst (λ (m : SessionStates). IsGoing w k (record y { post = a.links; sessions = m }))
+    (sessions_gone k s a.heard.joined w.sessions state is) gone)
 gone_going w k c post (Server i) p at e x h =
     let y : ServerStepped = at_server c post w in
     let g = went w (Server i) (Server k) p x h in
@@ -333,7 +342,8 @@ gone_going w k c post (Server i) p at e x h =
       joined = λ t q. q;
     } in
     subst (λ (m : SessionStates). IsGoing w k (record y { post = a.links; sessions = m; in_flight = flying_without_each k (Server i) a.heard.joined w.in_flight })) (sessions_stay k i a.heard.joined w.sessions)
-    (subst (λ (fs : List InFlight). IsGoing w k (record y { post = a.links; in_flight = fs })) (flying_gone k i a.heard.joined w.in_flight) gone)
+    (subst (λ (fs : List InFlight). IsGoing w k (record y { post = a.links; in_flight = fs }))
+    (flying_gone k i a.heard.joined w.in_flight) gone)
 
 -- whoever sent it has joined, or is another server that there is
 sender_there : (w : Served) (k : ℕ) (from : Peer) (p : Packet) → WasSent from (Server k) (Some p) w.packets.sent → IsLinked w → IsOther (length w.servers) w.sessions k (Some from) × IsSender w.sessions from
@@ -354,5 +364,6 @@ receive_packet_server_linked w k c post now from p i e x answered h =
     let sender = sender_there w k from p x h in
     going_linked w k (server_receive_packet now k from p (at_server c post w)) few
     (all_heard w k few h (without_joined k from a.heard.joined (record (at_server c post w) { post = a.links })) from now (heard_in from p) a.heard
-    (of_other w k few h from p sender.0) sender.1 (server_receive_first w k post from p e x h) (gone_going w k c post from p i e x h) answered)
+    (of_other w k few h from p sender.0) sender.1 (server_receive_first w k post from p e x h)
+    (gone_going w k c post from p i e x h) answered)
     h

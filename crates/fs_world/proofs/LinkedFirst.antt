@@ -37,7 +37,8 @@ use Rattle.fs_msg.specs.declared.peer_msg.PeerMsg.TheVariants.{Parcel as OfParce
 pub served_then : (servers : ℕ) (a b : SessionStates) (k : ℕ) (s : Core) → ((t : Session) → HasJoined a t → HasJoined b t) → IsServed servers a k s → IsServed servers b k s
 served_then servers a b k s g h = record { me = h.me; named = h.named; records = h.records; handles = h.handles; rows = λ row i. g row.session (h.rows row i) }
 
-pub brings_then : (a b : SessionStates) (m : PeerMsg) → ((t : Session) → HasJoined a t → HasJoined b t) → BringsParcel a m → BringsParcel b m
+pub brings_then : (a b : SessionStates) (m : PeerMsg) → ((t : Session) → HasJoined a t → HasJoined b t) → BringsParcel a m
+    → BringsParcel b m
 brings_then a b (OfParcel p) g h = record { each = h.each; handles = h.handles; rows = λ row i. g row.session (h.rows row i) }
 brings_then a b (Prepare m) g h = h
 brings_then a b (Vote m) g h = h
@@ -50,7 +51,8 @@ carried_then servers a b f g h = record { from = h.from; to = h.to; apart = h.ap
 abbrev pub AllSoundStates : ℕ → SessionStates → Type 0
 AllSoundStates servers sessions = AtAll (IsSoundState servers) sessions
 
-pub readable_in : (servers : ℕ) (sessions : SessionStates) → AllSoundStates servers sessions → (s : Session) → HasJoined sessions s → is_readable_session s ≡ true
+pub readable_in : (servers : ℕ) (sessions : SessionStates) → AllSoundStates servers sessions → (s : Session) → HasJoined sessions s
+    → is_readable_session s ≡ true
 readable_in servers sessions h s j = (h s j.0 j.1).number
 
 -- the links of each server that there is
@@ -117,7 +119,8 @@ first_linked n skew term some few =
 
 -- ## A session joins
 
-first_state_sound : (servers : ℕ) (s : Session) (term : ℕ) → 0 < servers → is_readable_session s ≡ true → IsSoundState servers s (first_session_state term s)
+first_state_sound : (servers : ℕ) (s : Session) (term : ℕ) → 0 < servers → is_readable_session s ≡ true
+    → IsSoundState servers s (first_session_state term s)
 first_state_sound servers s term some readable =
     let c = first_fine servers s term some in
     record { number = readable; session = refl; log = c.log; hints = c.hints; up = λ m i. absurd i; down = λ m i. absurd i }
@@ -131,9 +134,13 @@ joins w s None e readable h =
       some = h.some;
       few = h.few;
       ties = session_joins w s w.term e h.ties;
-      servers = λ k c i. served_then n w.sessions (insert w.sessions s.0 state) k c (λ t g. joined_still w.sessions s t state g) (h.servers k c i);
-      sessions = all_put (IsSoundState n) w.sessions s state (first_state_sound n s w.term (let some = h.some in omega arith) readable) h.sessions;
-      in_flight = λ f i. carried_then n w.sessions (insert w.sessions s.0 state) f (λ t g. joined_still w.sessions s t state g) (h.in_flight f i);
+      servers =
+          λ k c i. served_then n w.sessions (insert w.sessions s.0 state) k c (λ t g. joined_still w.sessions s t state g)
+          (h.servers k c i);
+      sessions =
+          all_put (IsSoundState n) w.sessions s state (first_state_sound n s w.term (let some = h.some in omega arith) readable) h.sessions;
+      in_flight =
+          λ f i. carried_then n w.sessions (insert w.sessions s.0 state) f (λ t g. joined_still w.sessions s t state g) (h.in_flight f i);
     }
 joins w s (Some state) e readable h = h
 

@@ -207,7 +207,8 @@ module _ (w : Served) (k : ℕ) (there : k < length w.posts) where
   -- ## All that is sent, one after another
 
   abbrev sending : List (Peer × Msg) → ServerStepped → ServerStepped
-  sending xs x = record x { post = with_pushed xs x.post; sessions = with_downs k xs x.sessions; in_flight = x.in_flight ++ in_flight_from k xs }
+  sending xs x =
+      record x { post = with_pushed xs x.post; sessions = with_downs k xs x.sessions; in_flight = x.in_flight ++ in_flight_from k xs }
 
   module _ (servers : ℕ) (sessions : SessionStates) (posts : (j : ℕ) → j < servers → (q : Links) × (slice_get w.posts j ≡ Some q)) (readable : (s : Session) → HasJoined sessions s → is_readable_session s ≡ true) where
     pub server_sends : (xs : List (Peer × Msg)) (x : ServerStepped) → ((t : Session) → HasJoined sessions t → HasJoined x.sessions t) → AreSent servers sessions k xs → FitsDown xs → is_full_down xs x.post ≡ false → AreTied (at x) → AreTied (at (sending xs x))
@@ -305,5 +306,6 @@ module _ (w : Served) (k : ℕ) (there : k < length w.posts) where
       others (Client t) e = (refl, refl)
       others (Server i) e = (
         ap (λ (ms : List InFlight). map f ms) (others_taken joined (is_between j k) (is_between k i) x.in_flight (λ m q. from_other k i apart_here m q)),
-        ap (λ (ms : List InFlight). map f ms) (others_taken joined (is_between j k) (is_between i k) x.in_flight (λ m q. from_other i k e m q)),
+        ap (λ (ms : List InFlight). map f ms)
+            (others_taken joined (is_between j k) (is_between i k) x.in_flight (λ m q. from_other i k e m q)),
       )

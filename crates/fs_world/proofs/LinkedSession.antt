@@ -56,7 +56,8 @@ record IsSitting (w : Served) (s : Session) (state : SessionState) (journal : Li
   tied : AreTied (with_state s state journal packets w)
   here : IsSoundState (length w.servers) s state
 
-sits : (w : Served) (s : Session) (state : SessionState) → get w.sessions s.0 ≡ Some state → IsLinked w → IsSitting w s state w.journal w.packets
+sits : (w : Served) (s : Session) (state : SessionState) → get w.sessions s.0 ≡ Some state → IsLinked w
+    → IsSitting w s state w.journal w.packets
 sits w s state e h = record {
   tied = subst (λ (sessions : SessionStates). AreTied (record w { sessions = sessions })) (sym (put_same w.sessions s state e)) h.ties;
   here = h.sessions s state e;
@@ -70,9 +71,12 @@ sitting_linked w s state journal packets k h =
       some = h.some;
       few = h.few;
       ties = k.tied;
-      servers = λ j c i. served_then n w.sessions (insert w.sessions s.0 state) j c (λ t g. joined_still w.sessions s t state g) (h.servers j c i);
+      servers =
+          λ j c i. served_then n w.sessions (insert w.sessions s.0 state) j c (λ t g. joined_still w.sessions s t state g)
+          (h.servers j c i);
       sessions = all_put (IsSoundState n) w.sessions s state k.here h.sessions;
-      in_flight = λ f i. carried_then n w.sessions (insert w.sessions s.0 state) f (λ t g. joined_still w.sessions s t state g) (h.in_flight f i);
+      in_flight =
+          λ f i. carried_then n w.sessions (insert w.sessions s.0 state) f (λ t g. joined_still w.sessions s t state g) (h.in_flight f i);
     }
 
 -- ## What happens at a session
@@ -131,7 +135,8 @@ session_does w s turn heard spent p state journal packets of planned fits room k
 zero_below : (w : Served) → IsLinked w → 0 < length w.servers
 zero_below w h = let some = h.some in omega arith
 
-fine_at : (w : Served) (s : Session) (state : SessionState) → get w.sessions s.0 ≡ Some state → IsLinked w → IsFine (length w.servers) state.client
+fine_at : (w : Served) (s : Session) (state : SessionState) → get w.sessions s.0 ≡ Some state → IsLinked w
+    → IsFine (length w.servers) state.client
 fine_at w s state e h = let k = h.sessions s state e in record { log = k.log; hints = k.hints }
 
 -- the session's user asks for an operation

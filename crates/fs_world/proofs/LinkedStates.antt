@@ -65,10 +65,12 @@ pub got_here : (sessions : SessionStates) (s : Session) (state : SessionState) �
 got_here sessions s state = get-insert nat_cmp_total sessions s.0 state s.0 ∙ ap (λ (b : Bool). cond b (Some state) (get sessions s.0)) (tied_self (Client s))
 
 pub got_there : (sessions : SessionStates) (s t : Session) (state : SessionState) → same_peer (Client t) (Client s) ≡ false → get (insert sessions s.0 state) t.0 ≡ get sessions t.0
-got_there sessions s t state e = get-insert nat_cmp_total sessions s.0 state t.0 ∙ ap (λ (b : Bool). cond b (Some state) (get sessions t.0)) e
+got_there sessions s t state e =
+    get-insert nat_cmp_total sessions s.0 state t.0 ∙ ap (λ (b : Bool). cond b (Some state) (get sessions t.0)) e
 
 -- a state that is put where it was
-pub put_same : (sessions : SessionStates) (s : Session) (state : SessionState) → get sessions s.0 ≡ Some state → insert sessions s.0 state ≡ sessions
+pub put_same : (sessions : SessionStates) (s : Session) (state : SessionState) → get sessions s.0 ≡ Some state
+    → insert sessions s.0 state ≡ sessions
 put_same sessions s state h = same_map nat_cmp_total nat_cmp-IsAntisymmetric (insert sessions s.0 state) sessions at
   where
     at : (q : ℕ) → get (insert sessions s.0 state) q ≡ get sessions q
@@ -79,7 +81,8 @@ put_same sessions s state h = same_map nat_cmp_total nat_cmp-IsAntisymmetric (in
         either false e = refl
 
 -- of two states that are put at one place the second stands there
-pub put_again : (sessions : SessionStates) (s : Session) (first second : SessionState) → insert (insert sessions s.0 first) s.0 second ≡ insert sessions s.0 second
+pub put_again : (sessions : SessionStates) (s : Session) (first second : SessionState)
+    → insert (insert sessions s.0 first) s.0 second ≡ insert sessions s.0 second
 put_again sessions s first second = same_map nat_cmp_total nat_cmp-IsAntisymmetric (insert (insert sessions s.0 first) s.0 second) (insert sessions s.0 second) (λ (q : ℕ).
     get-insert nat_cmp_total (insert sessions s.0 first) s.0 second q
     ∙ ap (λ (o : Option SessionState). cond (eq_by_cmp nat_cmp q s.0) (Some second) o) (get-insert nat_cmp_total sessions s.0 first q)
@@ -93,7 +96,8 @@ put_again sessions s first second = same_map nat_cmp_total nat_cmp-IsAntisymmetr
 -- what is the same of two states is the same wherever one looks
 pub unseen : {X : Type 0} (f : Option SessionState → X) (sessions : SessionStates) (s : ℕ) (old new : SessionState) → f (Some new) ≡ f (Some old) → (t : ℕ) → f (get (insert sessions s new) t) ≡ f (get (insert sessions s old) t)
 unseen f sessions s old new e t =
-    ap f (get-insert nat_cmp_total sessions s new t) ∙ either (eq_by_cmp nat_cmp t s) ∙ sym (ap f (get-insert nat_cmp_total sessions s old t))
+    ap f (get-insert nat_cmp_total sessions s new t) ∙ either (eq_by_cmp nat_cmp t s)
+    ∙ sym (ap f (get-insert nat_cmp_total sessions s old t))
   where
     either : (b : Bool) → f (cond b (Some new) (get sessions t)) ≡ f (cond b (Some old) (get sessions t))
     either true = e
@@ -211,7 +215,8 @@ others_taken (j ∷ js) is other xs g = others_taken js is other (without_first 
 pub with_other : {X : Type 0} (j k : ℕ) (m : ℕ × X) → same_peer (Server j) (Server k) ≡ false → is_with k m ≡ true → is_with j m ≡ false
 with_other j k m e q = ap (λ (n : ℕ). n == j) (eqb-true m.0 k q) ∙ turned_apart j k e
 
-module _ (w : Served) (s : Session) (state : SessionState) (k : ℕ) (post : Links) (p : Packet) (journal : List Item) (packets : Packets) where
+module _ (w : Served) (s : Session) (state : SessionState) (k : ℕ) (post : Links) (p : Packet) (journal : List Item)
+    (packets : Packets) where
   abbrev accepting : Served
   accepting = with_state s (record state { post = (post_accepted state.post (Server k) p).links; down = without_each (post_accepted state.post (Server k) p).heard.joined (is_with k) state.down }) journal packets w
 

@@ -4,7 +4,8 @@ use Rattle.std.proofs.lemmas.List.{length-map}
 use Rattle.fs_window.specs.declared.sent.Sent.{Sent}
 use Rattle.fs_world.specs.Packets.{Packets, AreMarked, first_undelivered}
 
-undelivered_more : (delivered : List Bool) (more : List Sent) → first_undelivered (delivered ++ map (λ (x : Sent). false) more) ≡ first_undelivered delivered
+undelivered_more : (delivered : List Bool) (more : List Sent)
+    → first_undelivered (delivered ++ map (λ (x : Sent). false) more) ≡ first_undelivered delivered
 undelivered_more [] [] = refl
 undelivered_more [] (x ∷ xs) = refl
 undelivered_more (false ∷ ts) more = refl
@@ -46,7 +47,8 @@ undelivered_delivered (suc k) (false ∷ ts) = omega arith
 undelivered_delivered (suc k) (true ∷ ts) = omega (arith, undelivered_delivered k ts)
 
 -- none before the next one is not told
-pub undelivered_after : (delivered : List Bool) (k next : ℕ) → next ≡ first_undelivered delivered → next ≤ first_undelivered (set delivered k true)
+pub undelivered_after : (delivered : List Bool) (k next : ℕ) → next ≡ first_undelivered delivered
+    → next ≤ first_undelivered (set delivered k true)
 undelivered_after delivered k next h = omega (arith, undelivered_delivered k delivered)
 
 -- one that was told is passed
@@ -62,7 +64,8 @@ undelivered_within [] = omega arith
 undelivered_within (false ∷ ts) = omega arith
 undelivered_within (true ∷ ts) = omega (arith, undelivered_within ts)
 
-pub undelivered_here : (delivered : List Bool) (k : ℕ) → k < length delivered → get_or delivered k false ≡ false → k ≤ first_undelivered delivered → k ≡ first_undelivered delivered
+pub undelivered_here : (delivered : List Bool) (k : ℕ) → k < length delivered → get_or delivered k false ≡ false
+    → k ≤ first_undelivered delivered → k ≡ first_undelivered delivered
 undelivered_here [] k h t l = absurd (omega arith)
 undelivered_here (false ∷ ts) zero h t l = refl
 undelivered_here (false ∷ ts) (suc k) h t l = absurd (omega arith)

@@ -156,7 +156,8 @@ first_kept : (first : Bool) → AreRecords (first_records first)
 first_kept true = kept_insert empty [] root_record kept_empty root_kept
 first_kept false = kept_empty
 
-pub first_served_core : (servers : ℕ) (sessions : SessionStates) (k skew term : ℕ) → 0 < servers → IsServed servers sessions k (first_server k skew term)
+pub first_served_core : (servers : ℕ) (sessions : SessionStates) (k skew term : ℕ) → 0 < servers
+    → IsServed servers sessions k (first_server k skew term)
 first_served_core servers sessions k skew term some = record { me = refl; named = named_first servers some; records = first_kept (k == 0); handles = first_open (k == 0); rows = λ row i. absurd i }
 
 module _ (servers : ℕ) (sessions : SessionStates) (k : ℕ) (some : k < servers) (readable : (s : Session) → HasJoined sessions s → is_readable_session s ≡ true) where

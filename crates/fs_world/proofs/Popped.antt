@@ -27,7 +27,8 @@ found : (f : SessionState → SessionState) (b : Bool) (state : SessionState) (h
 found f true state here there h = sym (ap (option_map f) (h refl))
 found f false state here there h = refl
 
-absent : (f : SessionState → SessionState) (b : Bool) (there : Option SessionState) → (b ≡ true → there ≡ None) → there ≡ cond b (option_map f there) there
+absent : (f : SessionState → SessionState) (b : Bool) (there : Option SessionState) → (b ≡ true → there ≡ None)
+    → there ≡ cond b (option_map f there) there
 absent f true there h = h refl ∙ sym (ap (option_map f) (h refl))
 absent f false there h = refl
 
@@ -45,7 +46,8 @@ popped n state = record state { up = without_first (is_with n) state.up }
 abbrev answered : ℕ × Answer → SessionState → SessionState
 answered a state = record state { down = state.down ++ a ∷ [] }
 
-answered_at : (o : Option SessionState) (k : ℕ) (a : ℕ × Answer) (sessions : SessionStates) → with_down_at o k a sessions ≡ changed_at (answered a) o k sessions
+answered_at : (o : Option SessionState) (k : ℕ) (a : ℕ × Answer) (sessions : SessionStates)
+    → with_down_at o k a sessions ≡ changed_at (answered a) o k sessions
 answered_at None k a sessions = refl
 answered_at (Some state) k a sessions = refl
 

@@ -181,7 +181,8 @@ module _ (laws : SerialLaws) (count skew greatest : ℕ) (tale : Tale) (w : Serv
             let right : IsRight (fair_after asked) (note.Server (step c now asked).out.note) =
             event asked (question_there (timed laws) count skew greatest tale (parts_of w) h now k c at s q.state q.asked q.there q.first) (takes_log s q.state q.asked.1 from q.there (question_found k q.state.up q.asked q.first)) in
             let after : AllRight (fair_at what (with_server k (taking k now asked (record y { server = c; in_flight = w.in_flight })) w).world) (heard_notes x now (asked ∷ []) c) = (right, tt) in
-            let placed : record y { server = c; in_flight = w.in_flight } ≡ y = λ i. record y { server = sym is i; in_flight = sym flies i } in
+            let placed : record y { server = c; in_flight = w.in_flight } ≡ y =
+            λ i. record y { server = sym is i; in_flight = sym flies i } in
             subst (λ (f : ServerEvent). AllRight (fair_at what (with_server k (taking k now f y) w).world) (heard_notes x now (f ∷ []) c)) (sym q.is)
             (subst (λ (z : ServerStepped). AllRight (fair_at what (with_server k (taking k now asked z) w).world) (heard_notes x now (asked ∷ []) c)) placed after)
         session_right s x (e ∷ f ∷ es) from next y is flies =
@@ -192,7 +193,8 @@ module _ (laws : SerialLaws) (count skew greatest : ℕ) (tale : Tale) (w : Serv
             let own : lines_of w.term w.sessions s ≡ lines_in w.term s (Some q.state) = ap (lines_in w.term s) q.there in
             let asks : AsksOne (lines_in w.term s (Some q.state)) = subst AsksOne own (all_exchanges skew greatest c seen s (In-got w.servers k c at) h.cluster) in
             let few = few_up q.state.client q.state.client.exchange q.state.up (ends_of (lines_in w.term s (Some q.state))).down asks.one in
-            absurd (no_second (is_with k) q.state.up q.asked r.asked few q.first (ap (λ (z : SessionState). find (is_with k) z.up) same ∙ r.first))
+            absurd (no_second (is_with k) q.state.up q.asked r.asked few q.first
+            (ap (λ (z : SessionState). find (is_with k) z.up) same ∙ r.first))
 
       server_receives : (packet : Sent) (from : Peer) (p : Packet) → packet_delivered w what ≡ Some packet → packet.to ≡ Server k → packet.from ≡ from → AreFirstOf (post_accepted post from p).heard.joined (between w from (Server k))
           → Right what (with_server k (server_receive_packet now k from p (at_server c post w)) w)
@@ -219,7 +221,8 @@ module _ (laws : SerialLaws) (count skew greatest : ℕ) (tale : Tale) (w : Serv
 
     receive_packet_at_server : (k : ℕ) (packet : Sent) (from : Peer) (p : Packet) (c : Option Core) (post : Option Links) → packet_delivered w what ≡ Some packet → packet.to ≡ Server k → packet.from ≡ from → slice_get w.servers k ≡ c
         → AreFirstOf (joined_at post from p) (between w from (Server k)) → Right what (server_receive_packet_at c post now k from p w)
-    receive_packet_at_server k packet from p (Some c) (Some post) delivered_so here is at f = server_receives k c post at packet from p delivered_so here is f
+    receive_packet_at_server k packet from p (Some c) (Some post) delivered_so here is at f =
+        server_receives k c post at packet from p delivered_so here is f
     receive_packet_at_server k packet from p (Some c) None delivered_so here is at f = (record { plain = refl; fair = tt }, tt)
     receive_packet_at_server k packet from p None (Some post) delivered_so here is at f = (record { plain = refl; fair = tt }, tt)
     receive_packet_at_server k packet from p None None delivered_so here is at f = (record { plain = refl; fair = tt }, tt)

@@ -36,7 +36,8 @@ joined_at term sessions s x true none e = ap (first_lines term) (one_session s x
 joined_at term sessions s x false none e = refl
 
 pub lines_joined : (term : ℕ) (sessions : SessionStates) (s : Session) → get sessions s.0 ≡ None → lines_of term (insert sessions s.0 (first_session_state term s)) ≡ lines_of term sessions
-lines_joined term sessions s none = lines_put term sessions s (first_session_state term s) ∙ fun_ext (λ x. joined_at term sessions s x (s.0 == x.0) none refl)
+lines_joined term sessions s none =
+    lines_put term sessions s (first_session_state term s) ∙ fun_ext (λ x. joined_at term sessions s x (s.0 == x.0) none refl)
 
 -- the lines of a session that has joined change
 changed_at : (term : ℕ) (sessions : SessionStates) (s x : Session) (state : SessionState) (f : Lines → Lines) (b : Bool) → get sessions s.0 ≡ Some state → (s.0 == x.0) ≡ b → cond b (f (lines_in term s (Some state))) (lines_of term sessions x) ≡ cond b (f (lines_of term sessions x)) (lines_of term sessions x)
@@ -61,5 +62,6 @@ joined_in : (sessions : SessionStates) (s x : Session) (state : SessionState) (b
 joined_in sessions s x state true h = (state, refl)
 joined_in sessions s x state false h = h
 
-pub joined_still : (sessions : SessionStates) (s x : Session) (state : SessionState) → HasJoined sessions x → HasJoined (insert sessions s.0 state) x
+pub joined_still : (sessions : SessionStates) (s x : Session) (state : SessionState) → HasJoined sessions x
+    → HasJoined (insert sessions s.0 state) x
 joined_still sessions s x state h = let k = joined_in sessions s x state (s.0 == x.0) h in (k.0, session_put sessions s x state ∙ k.1)

@@ -24,7 +24,8 @@ down_joined_at : (k : ℕ) (o : Option SessionState) (s : Session) (a : Answer) 
 down_joined_at k None s a sessions x h = h
 down_joined_at k (Some state) s a sessions x h = joined_still sessions s x (record state { down = state.down ++ (k, a) ∷ [] }) h
 
-pub down_joined : (k : ℕ) (m : Peer × Msg) (sessions : SessionStates) (x : Session) → HasJoined sessions x → HasJoined (with_down k m sessions) x
+pub down_joined : (k : ℕ) (m : Peer × Msg) (sessions : SessionStates) (x : Session) → HasJoined sessions x
+    → HasJoined (with_down k m sessions) x
 down_joined k (Client s, msg.Answer a) sessions x h = down_joined_at k (get sessions s.0) s a sessions x h
 down_joined k (Client s, msg.Client m) sessions x h = h
 down_joined k (Client s, msg.Peer m) sessions x h = h
@@ -56,7 +57,8 @@ answer_seen term k sessions s a None at h = absurd (none_joined (get sessions s.
 answer_seen term k sessions s a (Some state) at h = lines_changed term sessions s state (record state { down = state.down ++ (k, a) ∷ [] }) (λ (n : Lines). let m : Lines = record n { down = n.down ++ (k, a) ∷ [] } in m) at refl
 
 down_seen : (term k : ℕ) (sessions : SessionStates) (m : Peer × Msg) (rest : List (Peer × Msg)) → IsSentTo (HasJoined sessions) m → with_sent k rest (lines_of term (with_down k m sessions)) ≡ with_sent k (m ∷ rest) (lines_of term sessions)
-down_seen term k sessions (Client s, msg.Answer a) rest h = ap (with_sent k rest) (answer_seen term k sessions s a (get sessions s.0) refl h)
+down_seen term k sessions (Client s, msg.Answer a) rest h =
+    ap (with_sent k rest) (answer_seen term k sessions s a (get sessions s.0) refl h)
 down_seen term k sessions (Client s, msg.Client m) rest h = refl
 down_seen term k sessions (Client s, msg.Peer m) rest h = refl
 down_seen term k sessions (Server j, m) rest h = refl

@@ -106,7 +106,8 @@ module _ (laws : EventLaws) (count skew greatest : ℕ) (tale : Tale) (p : Parts
     abbrev after : Option Item → (Session → List Item) → (Session → Lines) → Cluster
     after admitted replied lines = record { servers = p.servers; in_flight = p.in_flight; journal = pushed admitted p.journal; replied = replied; lines = lines }
 
-    plan_seen : {N : Type 0} (rest : List (ℕ × Answer)) (plan : Plan N) (next : SessionState) → lines_in p.term s (Some next) ≡ planned rest plan
+    plan_seen : {N : Type 0} (rest : List (ℕ × Answer)) (plan : Plan N) (next : SessionState)
+        → lines_in p.term s (Some next) ≡ planned rest plan
         → after_plan s rest plan (cluster_of h.replied p) ≡ after plan.out.admitted (with_told s (told_by s plan.ready.change plan.out.admitted) h.replied) (lines_of p.term (insert p.sessions s.0 next))
     plan_seen rest plan next e =
         ap (λ (lines : Session → Lines). after plan.out.admitted (with_told s (told_by s plan.ready.change plan.out.admitted) h.replied) lines)
@@ -139,7 +140,8 @@ module _ (laws : EventLaws) (count skew greatest : ℕ) (tale : Tale) (p : Parts
 
           then : TellsOf s state.client.led (lines_in p.term s (Some next)).client.led state.down (lines_in p.term s (Some next)).down o new tale.leads leads
           then = subst (λ (n : Lines). TellsOf s state.client.led n.client.led state.down n.down o new tale.leads leads) (sym e)
-              (subst (λ d. TellsOf s state.client.led d state.down rest o new tale.leads leads) (sym (led_then plan.ready state.client)) tells)
+              (subst (λ d. TellsOf s state.client.led d state.down rest o new tale.leads leads)
+              (sym (led_then plan.ready state.client)) tells)
 
           there : TellsOf s (lines_of p.term p.sessions s).client.led (lines_in p.term s (Some next)).client.led (lines_of p.term p.sessions s).down (lines_in p.term s (Some next)).down o new tale.leads leads
           there = subst (λ (l : Lines). TellsOf s l.client.led (lines_in p.term s (Some next)).client.led l.down (lines_in p.term s (Some next)).down o new tale.leads leads) (sym own) then

@@ -109,9 +109,12 @@ module _ (laws : EventLaws) (count skew greatest : ℕ) (tale : Tale) (w : Serve
   -- ## A packet is told
 
   comes_then : (number : Option ℕ) (from to : Peer) (p : Packet) → AreFirstOf (joined_at (post_of w to) from p) (between w from to) → After (Tell number) (comes now from to p w)
-  comes_then number (Client s) (Server k) p f = receive_packet_at_server number k (Client s) p (slice_get w.servers k) (slice_get w.posts k) refl f
-  comes_then number (Server j) (Server k) p f = receive_packet_at_server number k (Server j) p (slice_get w.servers k) (slice_get w.posts k) refl f
-  comes_then number (Server j) (Client s) p f = told_holds laws count skew greatest tale w h now within some s j p (get w.sessions s.0) refl f
+  comes_then number (Client s) (Server k) p f =
+      receive_packet_at_server number k (Client s) p (slice_get w.servers k) (slice_get w.posts k) refl f
+  comes_then number (Server j) (Server k) p f =
+      receive_packet_at_server number k (Server j) p (slice_get w.servers k) (slice_get w.posts k) refl f
+  comes_then number (Server j) (Client s) p f =
+      told_holds laws count skew greatest tale w h now within some s j p (get w.sessions s.0) refl f
   comes_then number (Client r) (Client s) p f = same
 
   arrives_then : (number : Option ℕ) (from to : Peer) (p : Option Packet) → GivesFirst w from to p → After (Tell number) (arrives now from to p w)

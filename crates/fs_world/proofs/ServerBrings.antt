@@ -64,7 +64,8 @@ IsSender sessions (Client s) = HasJoined sessions s
 IsSender sessions (Server i) = Unit {0}
 
 one_brings : (servers k : ℕ) (from : Peer) (e : ServerEvent) (b sessions : SessionStates) (in_flight : List InFlight) → IsSender b from → ((f : InFlight) → In f in_flight → IsCarried servers b f) → IsNext k from e sessions in_flight → Brings b e
-one_brings servers k (Client s) e b sessions in_flight sender carried h = subst (Brings b) (sym h.is) (sender, message_readable h.asked.1 h.fits)
+one_brings servers k (Client s) e b sessions in_flight sender carried h =
+    subst (Brings b) (sym h.is) (sender, message_readable h.asked.1 h.fits)
 one_brings servers k (Server i) e b sessions in_flight sender carried h = subst (Brings b) (sym h.is) (carried h.flies (found (is_between i k) in_flight h.flies h.first).0).parcel
 
 pub left_flying : (k : ℕ) (from : Peer) (in_flight : List InFlight) (f : InFlight) → In f (flying_without k from in_flight) → In f in_flight
@@ -79,7 +80,8 @@ next_brought servers k from (e ∷ es) b sessions in_flight sender carried h = (
 )
 
 -- whoever has joined has, without messages on their way
-one_joined : (k : ℕ) (from : Peer) (sessions : SessionStates) (t : Session) → HasJoined sessions t → HasJoined (sessions_without k from sessions) t
+one_joined : (k : ℕ) (from : Peer) (sessions : SessionStates) (t : Session) → HasJoined sessions t
+    → HasJoined (sessions_without k from sessions) t
 one_joined k (Server j) sessions t h = h
 one_joined k (Client s) sessions t h = go (get sessions s.0)
   where

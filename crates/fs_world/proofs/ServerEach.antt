@@ -104,7 +104,8 @@ one_ran : (k now : ℕ) (e : ServerEvent) (y : ServerRun) (x : ServerStepped) �
 one_ran k now e y x =
     let out = (step y.server now e).out in
     let sessions : with_downs k (y.send ++ out.send) x.sessions ≡ with_downs k out.send (with_downs k y.send x.sessions) = downs_append k y.send out.send x.sessions in
-    let in_flight : x.in_flight ++ in_flight_from k (y.send ++ out.send) ≡ (x.in_flight ++ in_flight_from k y.send) ++ in_flight_from k out.send =
+    let in_flight : x.in_flight ++ in_flight_from k (y.send ++ out.send) ≡
+    (x.in_flight ++ in_flight_from k y.send) ++ in_flight_from k out.send =
     ap (λ (fs : List InFlight). x.in_flight ++ fs) (flying_append k y.send out.send) ∙ sym (append_assoc x.in_flight (in_flight_from k y.send) (in_flight_from k out.send)) in
     let journal : x.journal ++ (y.admitted ++ out.admitted) ≡ (x.journal ++ y.admitted) ++ out.admitted = sym (append_assoc x.journal y.admitted out.admitted) in
     λ i. record (taking k now e (ran k y x)) { sessions = sessions i; in_flight = in_flight i; journal = journal i }

@@ -152,10 +152,11 @@ module _ (laws : EventLaws) (count skew greatest : ℕ) (tale : Tale) (p : Parts
             (ap (with_sent k (step s now e).out.send) (sym taken) ∙ sym (sends_seen p.term k (step s now e).out.send before step_is.sends)) at_each
 
         rows : (x : Server) → In x (after_core e before).servers → (row : _) → In row x.rows → HasJoined (after_core e before).sessions row.session
-        rows x i row j = elim (In_set p.servers k (step s now e).server x i) as (λ _. HasJoined (after_core e before).sessions row.session) [
-          | inl same ↦ joined_then row.session (step_is.rows row (subst (λ (y : Server). In row y.rows) same j))
-          | inr old ↦ joined_then row.session (stay row.session (h.rows x old row j))
-        ]
+        rows x i row j =
+            elim (In_set p.servers k (step s now e).server x i) as (λ _. HasJoined (after_core e before).sessions row.session) [
+              | inl same ↦ joined_then row.session (step_is.rows row (subst (λ (y : Server). In row y.rows) same j))
+              | inr old ↦ joined_then row.session (stay row.session (h.rows x old row j))
+            ]
 
         parcels : (f : InFlight) → In f (after_core e before).in_flight → BringsOf (HasJoined (after_core e before).sessions) f.message
         parcels f i = elim (In-append f (without_arrived k e p.in_flight) (in_flight_from k (step s now e).out.send) i) as (λ _. BringsOf (HasJoined (after_core e before).sessions) f.message) [
@@ -177,7 +178,8 @@ module _ (laws : EventLaws) (count skew greatest : ℕ) (tale : Tale) (p : Parts
       lines_put p.term p.sessions by (record state { up = without_first (is_with k) state.up })
       ∙ ap (λ (n : Lines). with_lines by (record n { up = without_first (is_with k) n.up }) (lines_of p.term p.sessions)) (sym (ap (lines_in p.term by) is))
 
-  pub message_holds : (by : Session) (state : SessionState) (m : ℕ × ClientMsg) → get p.sessions by.0 ≡ Some state → find (is_with k) state.up ≡ Some m
+  pub message_holds : (by : Session) (state : SessionState) (m : ℕ × ClientMsg) → get p.sessions by.0 ≡ Some state
+      → find (is_with k) state.up ≡ Some m
       → Holds laws count skew (max greatest now) tale (after_core (FromClient by m.1) (insert p.sessions by.0 (record state { up = without_first (is_with k) state.up })))
   message_holds by state m is first = server_holds (FromClient by m.1) (insert p.sessions by.0 (record state { up = without_first (is_with k) state.up }))
       (question_taken by state m.1 is) (λ x i. joined_still p.sessions by x (record state { up = without_first (is_with k) state.up }) i) (question_there by state m is first)
@@ -192,5 +194,6 @@ module _ (laws : EventLaws) (count skew greatest : ℕ) (tale : Tale) (p : Parts
       let is = both (f.from == j) (f.to == k) (found (is_between j k) p.in_flight f first).1 in
       first ∙ ap (λ (g : InFlight). let o : Option InFlight = Some g in o) (flying_is j f (eqb-true f.from j is.0) (eqb-true f.to k is.1))
 
-  pub flying_of_joined : (j : ℕ) (f : InFlight) → find (is_between j k) p.in_flight ≡ Some f → IsAsked (HasJoined p.sessions) (FromPeer j f.message)
+  pub flying_of_joined : (j : ℕ) (f : InFlight) → find (is_between j k) p.in_flight ≡ Some f
+      → IsAsked (HasJoined p.sessions) (FromPeer j f.message)
   flying_of_joined j f first = h.parcels f (found (is_between j k) p.in_flight f first).0

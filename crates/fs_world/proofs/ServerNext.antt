@@ -112,8 +112,12 @@ one_down k (Client t, msg.Answer a) sessions s state is = at (get sessions t.0) 
         either : (b : Bool) → same_peer (Client s) (Client t) ≡ b → (next : SessionState) × (get (insert sessions t.0 new) s.0 ≡ Some next) × (next.up ≡ state.up)
         either true q =
             let one : s ≡ t = session_is s t q in
-            let same : old ≡ state = some_is old state (sym e ∙ ap (λ (z : Session). get sessions z.0) (sym one) ∙ is) in
-            (new, ap (λ (z : Session). get (insert sessions t.0 new) z.0) one ∙ got_here sessions t new, ap (λ (z : SessionState). z.up) same)
+            let same : old ≡ state = some_is old state (sym e ∙ ap (λ (z : Session). get sessions z.0) (sym one) ∙ is) in (
+              new,
+              ap (λ (z : Session). get (insert sessions t.0 new) z.0) one
+                  ∙ got_here sessions t new,
+              ap (λ (z : SessionState). z.up) same,
+            )
         either false q = (state, got_there sessions t s new q ∙ is, refl)
 one_down k (Client t, msg.Client m) sessions s state is = (state, is, refl)
 one_down k (Client t, msg.Peer m) sessions s state is = (state, is, refl)

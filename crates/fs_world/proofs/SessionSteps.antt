@@ -225,7 +225,8 @@ told_holds laws count skew greatest tale w h now within some s k p (Some state) 
     let there : SessionState = record state { post = a.links } in
     let from = heard_in (Server k) p in
     let heard = answers_in k a.heard.joined state.down f in
-    let left : Served = record w { sessions = insert w.sessions s.0 (session_after now k heard.0 (post_due a.links false from).links state) } in
+    let left : Served =
+    record w { sessions = insert w.sessions s.0 (session_after now k heard.0 (post_due a.links false from).links state) } in
     subst (λ (x : SessionStepped). Then laws count skew greatest tale w h now within some (ended_in s (tale.leads s) x.outcome.notes) tale.leads (with_session s x w).world) (sym (heard_is s now k from a.heard heard.0 there w.journal w.packets heard.1))
     (subst (λ (ts : List ReplyGiven). Then laws count skew greatest tale w h now within some ts tale.leads left) (noted_heard s (tale.leads s) a.heard now k heard.0 state.client)
     (all_heard heard.0 laws count skew greatest tale w h now within some s state at k (post_due a.links false from).links heard.2))

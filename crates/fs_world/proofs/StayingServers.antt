@@ -75,7 +75,8 @@ module _ (w : Served) where
   pub servers_stay : (now : ℕ) (what : What) → Stay (step_of w now what)
   servers_stay now (Join s) = joins (get w.sessions s.0) s
   servers_stay now (Do s o) = does (get w.sessions s.0) now s o
-  servers_stay now (Tell None) = telling (slice_get w.packets.sent (first_undelivered w.packets.delivered)) now (first_undelivered w.packets.delivered)
+  servers_stay now (Tell None) =
+      telling (slice_get w.packets.sent (first_undelivered w.packets.delivered)) now (first_undelivered w.packets.delivered)
   servers_stay now (Tell (Some k)) = telling (slice_get w.packets.sent k) now k
   servers_stay now (Turn (Client s)) = turns (get w.sessions s.0) now s
   servers_stay now (Turn (Server k)) = steps (slice_get w.servers k) (slice_get w.posts k) k true now TheTurn

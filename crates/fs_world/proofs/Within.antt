@@ -68,7 +68,8 @@ act_within w s now o (Some state) at called h unspent r =
     let send = (act_plan state.client now o).out.send in
     let next = (client_acts now s o state w.journal w.packets).state in
     act_linked w s state now o at called
-    (up_written (with_session s (client_acts now s o state w.journal w.packets) w).world s next send state.up (got_here w.sessions s next) refl r)
+    (up_written (with_session s (client_acts now s o state w.journal w.packets) w).world s next send state.up
+    (got_here w.sessions s next) refl r)
     (has_room (if is_act_spent state.client now o then Some Entries else None) (is_full_up send state.post) unspent) h
 
 turn_within : (w : TheServed) (s : Session) (now : ℕ) (x : Option SessionState) → get w.sessions s.0 ≡ x → IsLinked w → (turn_at x now s w).spent ≡ None → AllInRange (turn_at x now s w).world → IsLinked (turn_at x now s w).world
@@ -77,7 +78,8 @@ turn_within w s now (Some state) at h unspent r =
     let send = (turn_plan state.client now).out.send in
     let next = (client_turns now s state w.journal w.packets).state in
     turn_linked w s state now at
-    (up_written (with_session s (client_turns now s state w.journal w.packets) w).world s next send state.up (got_here w.sessions s next) refl r)
+    (up_written (with_session s (client_turns now s state w.journal w.packets) w).world s next send state.up
+    (got_here w.sessions s next) refl r)
     (has_room None (is_full_up send state.post) unspent) h
 
 -- ## A server's events
@@ -113,7 +115,8 @@ answers_within w k now c from replied x links es at of brought h fine =
     let n = length w.servers in
     let y = at_server c links w in
     let run = run_in now from x x.joined y in
-    let sent = all_sent n w.sessions k (within w.servers k c at) (readable_in n w.sessions h.sessions) now es c brought (h.servers k c at) in
+    let sent =
+    all_sent n w.sessions k (within w.servers k c at) (readable_in n w.sessions h.sessions) now es c brought (h.servers k c at) in
     let all : AreSent n w.sessions k run.send = subst (AreSent n w.sessions k) (sym (sends_so now from x y ∙ each_sends now from x.joined es (server_begins c links []) of)) sent in
     let world = (with_server k (server_hears now k from replied x y) w).world in
     let written : FitsDown run.send = down_written n w.sessions (sessions_without_each k from x.joined w.sessions) k run.send (flying_without_each k from x.joined w.in_flight) world all (still_joined k from x.joined w.sessions) refl refl fine.1 in

@@ -47,7 +47,8 @@ session_left outcome state journal packets = record (session_found state journal
 
 -- what an event of a server leaves that came to this
 abbrev pub server_left : Outcome → Server → Links → SessionStates → List InFlight → List Item → Packets → ServerStepped
-server_left outcome s post sessions in_flight journal packets = record (server_found s post sessions in_flight journal packets) { outcome = outcome }
+server_left outcome s post sessions in_flight journal packets =
+    record (server_found s post sessions in_flight journal packets) { outcome = outcome }
 
 -- the world that an event leaves that came to this
 abbrev pub world_left : Outcome → Served → Stepped
@@ -124,7 +125,8 @@ pub record IsServerRun (y : ServerRun) (k : ℕ) (before : ServerStepped) (outco
   pub flying_then : in_flight ≡ before.in_flight ++ in_flight_from k y.send
   pub journal_then : journal ≡ before.journal ++ y.admitted
   pub packets_then : packets ≡ with_sent y.packets before.packets
-  pub outcome_then : outcome ≡ record { who = Some (TheServer k); notes = y.notes; sent = numbers_from (length before.packets.sent) y.packets }
+  pub outcome_then : outcome ≡
+      record { who = Some (TheServer k); notes = y.notes; sent = numbers_from (length before.packets.sent) y.packets }
   pub unspent : y.spent ≡ None
 
 -- what it heard of the actor, which is on its way no more

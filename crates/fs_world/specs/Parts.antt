@@ -30,7 +30,8 @@ lines_of term sessions x = lines_in term x (get sessions x.0)
 
 -- what each session was told is kept beside
 abbrev pub seen : (Session → List Item) → Served → Cluster
-seen replied w = record { servers = w.servers; in_flight = w.in_flight; journal = w.journal; replied = replied; lines = lines_of w.term w.sessions }
+seen replied w =
+    record { servers = w.servers; in_flight = w.in_flight; journal = w.journal; replied = replied; lines = lines_of w.term w.sessions }
 
 -- what each session was told, as the journal and its client have it: its items, and then its log as that will be
 abbrev pub replied_in : Served → Session → List Item

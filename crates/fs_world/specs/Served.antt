@@ -242,7 +242,8 @@ flying_without_each k from [] in_flight = in_flight
 flying_without_each k from (y ∷ ys) in_flight = flying_without_each k from ys (flying_without k from in_flight)
 
 abbrev pub without_joined : {Y : Type 0} → ℕ → Peer → List Y → ServerStepped → ServerStepped
-without_joined k from ys x = record x { sessions = sessions_without_each k from ys x.sessions; in_flight = flying_without_each k from ys x.in_flight }
+without_joined k from ys x =
+    record x { sessions = sessions_without_each k from ys x.sessions; in_flight = flying_without_each k from ys x.in_flight }
 
 -- what an event of several messages leaves: all that the server sends is on its way, and all that it admits joins the journal
 abbrev pub server_ran : ℕ → ServerRun → ServerStepped → ServerStepped

@@ -26,8 +26,10 @@ pub record IsInRange (m : Msg) : Type 0 where
 
 -- so has each that is on its way
 pub record AllInRange (w : Served) : Type 0 where
-  pub up : (s : Session) (state : SessionState) (m : ℕ × ClientMsg) → get w.sessions s.0 ≡ Some state → In m state.up → IsInRange (msg.Client m.1)
-  pub down : (s : Session) (state : SessionState) (m : ℕ × Answer) → get w.sessions s.0 ≡ Some state → In m state.down → IsInRange (msg.Answer m.1)
+  pub up : (s : Session) (state : SessionState) (m : ℕ × ClientMsg) → get w.sessions s.0 ≡ Some state → In m state.up
+      → IsInRange (msg.Client m.1)
+  pub down : (s : Session) (state : SessionState) (m : ℕ × Answer) → get w.sessions s.0 ≡ Some state → In m state.down
+      → IsInRange (msg.Answer m.1)
   pub in_flight : (f : InFlight) → In f w.in_flight → IsInRange (msg.Peer f.message)
 
 -- the event may happen to the world, raises no counter above its end, and leaves none but such messages on their way

@@ -48,7 +48,8 @@ use Rattle.fs_serial.proofs.ClientMessages.SessionStates.{SessionStateHolds, see
 
 -- ## Numbers that come are new
 
-new_is : (leases : List ViewLease) (before : List Grant) (g : Grant) → is_new leases before g ≡ true → list_any (has_number g.no) leases ≡ false
+new_is : (leases : List ViewLease) (before : List Grant) (g : Grant) → is_new leases before g ≡ true
+    → list_any (has_number g.no) leases ≡ false
 new_is leases before g h = not-true (list_any (has_number g.no) leases) (both (not (list_any (has_number g.no) leases)) _ h).0
 
 front_new : (items : List (Field × LeaseKind)) (leases : List ViewLease) (before gs : List Grant) → front_fits items leases before gs ≡ true → (g : Grant) → In g gs → list_any (has_number g.no) leases ≡ false

@@ -118,7 +118,8 @@ pub record IsHeldThere (ks : List ViewLease) (n : LeaseNo) : Type 0 where
   pub number : number_of kept.standing ≡ n
   pub held : is_held kept.standing ≡ true
 
-the_held : (ks : List ViewLease) (n : LeaseNo) (o : Option ViewLease) → find (has_number n) ks ≡ o → stands is_held n ks ≡ true → IsHeldThere ks n
+the_held : (ks : List ViewLease) (n : LeaseNo) (o : Option ViewLease) → find (has_number n) ks ≡ o → stands is_held n ks ≡ true
+    → IsHeldThere ks n
 the_held ks n None e t = absurd (let q : false ≡ true = ap (λ o. option_map_or (λ (k : ViewLease). is_held k.standing) o false) (sym e) ∙ t in cc)
 the_held ks n (Some k) e t =
     let q = found (has_number n) ks k e in

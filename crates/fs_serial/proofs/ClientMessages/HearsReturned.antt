@@ -43,14 +43,16 @@ one_recall n k = cond (has_number n k) (record k { recalled = recalled_as k.stan
 recall_standing : (n : LeaseNo) (k : ViewLease) → (one_recall n k).standing ≡ k.standing
 recall_standing n k = within (has_number n k)
   where
-    within : (b : Bool) → (cond b (let x : ViewLease = record k { recalled = recalled_as k.standing k.recalled } in x) k).standing ≡ k.standing
+    within : (b : Bool)
+        → (cond b (let x : ViewLease = record k { recalled = recalled_as k.standing k.recalled } in x) k).standing ≡ k.standing
     within true = refl
     within false = refl
 
 recall_lease : (n : LeaseNo) (k : ViewLease) → lease_in (one_recall n k) ≡ lease_in k
 recall_lease n k = within (has_number n k)
   where
-    within : (b : Bool) → lease_in (cond b (let x : ViewLease = record k { recalled = recalled_as k.standing k.recalled } in x) k) ≡ lease_in k
+    within : (b : Bool)
+        → lease_in (cond b (let x : ViewLease = record k { recalled = recalled_as k.standing k.recalled } in x) k) ≡ lease_in k
     within true = refl
     within false = refl
 
@@ -139,7 +141,8 @@ all_returned (n ∷ ns) v h =
     let q : HasReturned w (released_all ns w) = all_returned ns w (λ m i k j. h m (inr i) k (p.was k j)) in
     record { session = q.session ∙ p.session; pending = q.pending ∙ p.pending; was = λ k i. p.was k (q.was k i); same = q.same ∙ p.same }
 
-sent_returned : (x : Option Exchange) (ks : List ViewLease) → ReleasesReturned x ks → (n : LeaseNo) → In n (numbers_sent x) → IsReturned ks n
+sent_returned : (x : Option Exchange) (ks : List ViewLease) → ReleasesReturned x ks → (n : LeaseNo) → In n (numbers_sent x)
+    → IsReturned ks n
 sent_returned None ks h n i = absurd i
 sent_returned (Some (Asks to items fresh)) ks h n i = absurd i
 sent_returned (Some (Renews to numbers)) ks h n i = absurd i

@@ -208,7 +208,8 @@ came_all (n ∷ ns) v k i =
       among = p.1.0;
       number = sym (one_keeps number_of leaving leaving_number n p.0) ∙ ap (λ (x : ViewLease). number_of x.standing) (sym p.1.1) ∙ q.number;
       pair = sym (one_keeps pair_in leaving leave_pair n p.0) ∙ ap pair_of (sym p.1.1) ∙ q.pair;
-      entries = sym (one_keeps entries_of leaving leave_entries n p.0) ∙ ap (λ (x : ViewLease). entries_of x.standing) (sym p.1.1) ∙ q.entries;
+      entries =
+          sym (one_keeps entries_of leaving leave_entries n p.0) ∙ ap (λ (x : ViewLease). entries_of x.standing) (sym p.1.1) ∙ q.entries;
       lease = λ l h. one_lease n p.0 l (ap lease_in (sym p.1.1) ∙ q.lease l h);
     }
 

@@ -214,7 +214,8 @@ module _ (greatest now : ℕ) (w : World) (by : Session) (h : WorldHolds greates
       (subst (λ down. IsPlanned w.server.skew greatest (sight_in w) by (w.replied by) began (w.ends by).up down rest (hear from a began)) (sym first)
       (quiet_planned w.server.skew greatest (sight_in w) by (w.replied by) began (w.ends by).up (a ∷ rest) rest (hear from a began) (hear_quiet by began from a)
       (hear_moved w.server.skew greatest (sight_in w) by (w.replied by) began (w.ends by).up rest from a at
-      (subst (λ down. SessionStateHolds w.server.skew greatest (sight_in w) by (w.replied by) began (w.ends by).up down) first session_began))))
+      (subst (λ down. SessionStateHolds w.server.skew greatest (sight_in w) by (w.replied by) began
+          (w.ends by).up down) first session_began))))
 
   pub client_keeps : (e : ClientEvent) → CanCome by e w.ends → greatest ≤ now + w.server.skew → WorldHolds greatest (after_client by now e w)
   client_keeps (Does o) can within = acts o can within
@@ -225,5 +226,6 @@ module _ (greatest now : ℕ) (w : World) (by : Session) (h : WorldHolds greates
   pub never_strange : (from : ℕ) (a : Answer) (rest : List Answer) → CanCome by (Hears from a rest) w.ends → (answer_plan (w.ends by).client now from a).out.note ≢ note.Strange
   never_strange from a rest can =
       let fit = fits_first w.server.skew greatest (sight_in w) by (w.replied by) began (w.ends by).up rest from a can.1
-      (subst (λ down. SessionStateHolds w.server.skew greatest (sight_in w) by (w.replied by) began (w.ends by).up down) can.0 session_began) in
+      (subst (λ down. SessionStateHolds w.server.skew greatest (sight_in w) by (w.replied by) began
+          (w.ends by).up down) can.0 session_began) in
       subst (λ b. (cond b (told a began) (strange began)).out.note ≢ note.Strange) (sym fit) (told_known began from a fit)

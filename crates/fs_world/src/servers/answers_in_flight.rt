@@ -33,7 +33,8 @@ pub(crate) fn push_downs(
 
 /// Undoes `push_downs` of these messages. Takes no memory.
 pub(crate) fn undo_downs(k: u8, sessions: &mut SessionStates, send: &[(Peer, Msg)])
-    ensures { (before : TheSessionStates) → sessions.old ≡ with_downs k send.now before → sessions.new ≡ before }
+    ensures { (before : TheSessionStates) → sessions.old ≡ with_downs k send.now before →
+        sessions.new ≡ before }
 {
     let mut left = send.len();
     while left > 0 {
@@ -60,7 +61,8 @@ fn push_down(
 
 /// Undoes that.
 fn undo_down(k: u8, sessions: &mut SessionStates, sent: &(Peer, Msg))
-    ensures { (before : TheSessionStates) → sessions.old ≡ with_down k sent.now before → sessions.new ≡ before }
+    ensures { (before : TheSessionStates) → sessions.old ≡ with_down k sent.now before →
+        sessions.new ≡ before }
 {
     match sent {
         (Peer::Client(s), Msg::Answer(_)) => sessions.unpush_down(*s),

@@ -160,7 +160,8 @@ fn admit(
     requires { CanCommit plan core.old }
     ensures server { OnOk result (core.new ≡ committed plan core.old) }
     ensures sessions { OnOk result (sessions.new ≡ with_downs k plan.out.send sessions.old) }
-    ensures in_flight { OnOk result (in_flight.new ≡ in_flight.old ++ in_flight_from k plan.out.send) }
+    ensures in_flight { OnOk result
+        (in_flight.new ≡ in_flight.old ++ in_flight_from k plan.out.send) }
     ensures journal { OnOk result (journal.new ≡ journal.old ++ plan.out.admitted) }
     ensures err_server { OnErr result (core.new ≡ core.old) }
     ensures err_sessions { OnErr result (sessions.new ≡ sessions.old) }

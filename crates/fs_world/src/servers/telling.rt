@@ -121,16 +121,16 @@ impl Served {
         requires apart { same_peer from (Server k) ≡ false }
         requires posts { length self.old.posts ≡ length self.old.servers }
         ensures done { IfOk result (λ outcome. world_left outcome self.new ≡
-            server_receive_packet_at (slice_get self.old.servers k) (slice_get self.old.posts k) now k from
-            p.now self.old) }
+            server_receive_packet_at (slice_get self.old.servers k) (slice_get self.old.posts k)
+            now k from p.now self.old) }
         ensures fits { (core : TheCore) (post : Links) →
             slice_get self.old.servers k ≡ Some core → slice_get self.old.posts k ≡ Some post →
             OnOk result (IsAnswered now from
             (post_accepted post from p.now).heard.joined
             (at_server core (post_accepted post from p.now).links self.old)) }
         ensures spends { Spends result
-            (server_receive_packet_at (slice_get self.old.servers k) (slice_get self.old.posts k) now k from
-            p.now self.old).spent }
+            (server_receive_packet_at (slice_get self.old.servers k) (slice_get self.old.posts k)
+            now k from p.now self.old).spent }
         ensures err { OnErr result (self.new ≡ self.old) }
     {
         let at = k as usize;
@@ -165,7 +165,8 @@ impl Served {
         ensures done { IfOk result (λ outcome. world_left outcome self.new ≡
             client_receive_packet_at (map.get self.old.sessions s.0) now s k p.now self.old) }
         ensures spends { Spends result
-            (client_receive_packet_at (map.get self.old.sessions s.0) now s k p.now self.old).spent }
+            (client_receive_packet_at (map.get self.old.sessions s.0) now s k p.now
+            self.old).spent }
         ensures err { OnErr result (self.new ≡ self.old) }
     {
         match self.sessions.get_mut(s) {

@@ -147,7 +147,8 @@ impl Served {
         ensures done { IfOk result (λ outcome. world_left outcome self.new ≡
             turn_at (map.get self.old.sessions s.0) now s self.old) }
         ensures linked { OnOk result (IsLinked self.new) }
-        ensures spends { Spends result (turn_at (map.get self.old.sessions s.0) now s self.old).spent }
+        ensures spends { Spends result
+            (turn_at (map.get self.old.sessions s.0) now s self.old).spent }
         ensures err { OnErr result (self.new ≡ self.old) }
     {
         match self.sessions.get_mut(s) {

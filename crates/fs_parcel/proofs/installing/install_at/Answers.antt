@@ -23,7 +23,8 @@ put_in-requires-clause-modes c =
     let modes = c.args.modes.now in
     let f = fitting c.args.records.now (filter live (in_one_list plain modes)) c.args.map.now c.args.me c.args.p c.requires.fits in
     let rows : AreRows (in_one_list plain modes) = both_rows plain modes c.all.ensures.valid c.all-2.ensures.valid c.requires.numbers in
-    let a : AreRows (after live c.args.p.rows plain modes) = all_rows _ _ _ _ c.args.p f (filtered_rows live (in_one_list plain modes) rows) in
+    let a : AreRows (after live c.args.p.rows plain modes) =
+    all_rows _ _ _ _ c.args.p f (filtered_rows live (in_one_list plain modes) rows) in
     takes_modes live c.args.p.rows plain modes (c.all.ensures.valid, (c.all-2.ensures.valid, rows)) a
 
 pub put_in-requires-clause-plain : goal.put_in-requires-clause-plain
@@ -33,7 +34,8 @@ put_in-requires-clause-plain c =
     let modes = c.args.modes.now in
     let f = fitting c.args.records.now (filter live (in_one_list plain modes)) c.args.map.now c.args.me c.args.p c.requires.fits in
     let rows : AreRows (in_one_list plain modes) = both_rows plain modes c.all.ensures.valid c.all-2.ensures.valid c.requires.numbers in
-    let a : AreRows (after live c.args.p.rows plain modes) = all_rows _ _ _ _ c.args.p f (filtered_rows live (in_one_list plain modes) rows) in
+    let a : AreRows (after live c.args.p.rows plain modes) =
+    all_rows _ _ _ _ c.args.p f (filtered_rows live (in_one_list plain modes) rows) in
     takes_plain live c.args.p.rows plain modes (c.all.ensures.valid, (c.all-2.ensures.valid, rows)) a
 
 pub put_in-requires-clause-records : goal.put_in-requires-clause-records

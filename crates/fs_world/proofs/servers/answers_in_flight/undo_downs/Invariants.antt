@@ -5,7 +5,8 @@ use Rattle.fs_world.proofs.servers.answers_in_flight.undo_downs.Given as goal
 abbrev pub invariant-loop-left : goal.invariant-loop-left
 invariant-loop-left l = record {
   within : l.left ≤ length l.send;
-  sessions : (before : SessionStates) → l.fn.sessions ≡ with_downs l.k l.send before → l.sessions ≡ with_downs l.k (take l.left l.send) before;
+  sessions : (before : SessionStates) → l.fn.sessions ≡ with_downs l.k l.send before
+      → l.sessions ≡ with_downs l.k (take l.left l.send) before;
 }
 
 abbrev pub decreases-loop-left : goal.decreases-loop-left

@@ -12,7 +12,8 @@ invariant_of-self c =
 pub returns : goal.returns
 returns c = λ p more e l.
     let sent : c.self.inside.sent ≡ p.sent ++ more = ap (λ (x : Packets). x.sent) (c.self.view_is ∙ e) in
-    let delivered : c.self.inside.delivered ≡ p.delivered ++ map (λ (x : Sent). false) more = ap (λ (x : Packets). x.delivered) (c.self.view_is ∙ e) in
+    let delivered : c.self.inside.delivered ≡ p.delivered ++ map (λ (x : Sent). false) more =
+    ap (λ (x : Packets). x.delivered) (c.self.view_is ∙ e) in
     let parts = cut_off p more c.args.len (sym (ap length delivered) ∙ c.self.invariant.marks ∙ ap length sent) l in
     ap₂ (λ (s : List Sent) (t : List Bool). let q : Packets = record { sent = s; delivered = t } in q)
     (c.truncate.ensures ∙ ap (take c.args.len) sent ∙ parts.0) (c.truncate-2.ensures ∙ ap (take c.args.len) delivered ∙ parts.1)

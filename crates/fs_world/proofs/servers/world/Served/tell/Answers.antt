@@ -30,4 +30,5 @@ mark-requires c =
 pub returns-clause-linked : goal.returns-clause-linked
 returns-clause-linked c =
     let v : Served = c.arrives.new.self in
-    subst (λ (p : Packets). IsLinked (record v { packets = p })) (sym c.mark.ensures) (mark_linked v c.args.k c.in_ok-arrived.ensures.linked)
+    subst (λ (p : Packets). IsLinked (record v { packets = p })) (sym c.mark.ensures)
+    (mark_linked v c.args.k c.in_ok-arrived.ensures.linked)
