@@ -9,7 +9,7 @@ use Rattle.fs_schedule.specs.declared.error.Which.TheVariants.{Packets}
 use Rattle.fs_schedule.specs.declared.event.Head.TheVariants.{Direct}
 use Rattle.fs_schedule.specs.declared.event.Schedule.{Schedule}
 use Rattle.fs_schedule.specs.Faults.{AtLine, IsFirstFault, IsScheduleText, PassesLimit}
-use Rattle.fs_world.specs.Order.{AllAdmitted, told_of}
+use Rattle.fs_world.specs.Order.{AllAdmitted, replies_given}
 use Rattle.fs_world.specs.Over.{AllCaused, said_from}
 use Rattle.fs_world.specs.Refusals.{AllFair, NoneStrange}
 use Rattle.fs_world.specs.Safe.{IsSerial}
@@ -40,7 +40,7 @@ pub record IsRunOf (schedule : Schedule) (text : List ℕ) (before now : Option 
   pub fair : AllFair (first_world schedule.head) schedule.events
   pub over : AllCaused [] (said_from (first_world schedule.head) schedule.events)
   pub known : NoneStrange (run_of schedule).outcomes
-  pub admitted : schedule.head ≡ Direct → AllAdmitted (journal_of (run_of schedule).world) (told_of schedule.events (run_of schedule).outcomes)
+  pub admitted : schedule.head ≡ Direct → AllAdmitted (journal_of (run_of schedule).world) (replies_given schedule.events (run_of schedule).outcomes)
 
 -- what was written is, in the format, the run of the schedule that was read
 pub record IsRun (format : Format) (bytes : List ℕ) (before now : Option (List ℕ)) : Type 0 where

@@ -75,20 +75,20 @@ fn line_of(alloc: Global, n: u64, schedule: &Schedule) -> Result<Vec<u8>, RunErr
     ensures packets { (line : ℕ) → IsErrOf result (Packets line) →
         stop_of schedule.now ≡ Some (AtPackets line) }
 {
-    let (world, told) = run(alloc, schedule)?;
-    let line = line(alloc, n, &world, &told);
+    let (world, outcomes) = run(alloc, schedule)?;
+    let line = line(alloc, n, &world, &outcomes);
     world.discard();
     Ok(line?)
 }
 
 /// The line of a world and of what its events came to.
-fn line(alloc: Global, n: u64, world: &World, told: &List<Outcome>) -> Result<Vec<u8>, Memory>
+fn line(alloc: Global, n: u64, world: &World, outcomes: &List<Outcome>) -> Result<Vec<u8>, Memory>
     ensures { IfOk result (λ v. v.items ≡
-        generated_text n (record { world = world.now; outcomes = told.now })) }
+        generated_text n (record { world = world.now; outcomes = outcomes.now })) }
 {
-    let events = told.len() as u64;
+    let events = outcomes.len() as u64;
     let journal = world.journal().len() as u64;
-    let refused = count_refused(alloc, told)?;
+    let refused = count_refused(alloc, outcomes)?;
     let space = world.space(alloc)?;
     let nodes = space.len() as u64;
     drop(space);
@@ -98,11 +98,11 @@ fn line(alloc: Global, n: u64, world: &World, told: &List<Outcome>) -> Result<Ve
 }
 
 /// How many entries of logs were refused.
-fn count_refused(alloc: Global, told: &List<Outcome>) -> Result<u64, Memory>
-    ensures { IfOk result (λ count. count ≡ length (refused_in told.now)) }
+fn count_refused(alloc: Global, outcomes: &List<Outcome>) -> Result<u64, Memory>
+    ensures { IfOk result (λ count. count ≡ length (refused_in outcomes.now)) }
 {
     let mut numbers = Vec::new(alloc);
-    for o in told.as_slice() {
+    for o in outcomes.as_slice() {
         add_refused(&o.notes, &mut numbers)?;
     }
     Ok(numbers.as_slice().len() as u64)

@@ -40,8 +40,8 @@ pub(crate) fn text_of(
     ensures packets { (line : ℕ) → IsErrOf result (Packets line) →
         stop_of schedule.now ≡ Some (AtPackets line) }
 {
-    let (world, told) = run(alloc, schedule)?;
-    let text = text(alloc, format, &world, &told);
+    let (world, outcomes) = run(alloc, schedule)?;
+    let text = text(alloc, format, &world, &outcomes);
     world.discard();
     Ok(text?)
 }
@@ -51,14 +51,14 @@ fn text(
     alloc: Global,
     format: Format,
     world: &World,
-    told: &List<Outcome>,
+    outcomes: &List<Outcome>,
 ) -> Result<Vec<u8>, Memory>
     ensures { IfOk result (λ v. v.items ≡
-        text_of format (record { world = world.now; outcomes = told.now })) }
+        text_of format (record { world = world.now; outcomes = outcomes.now })) }
 {
     let space = world.space(alloc)?;
     match format {
-        Format::Report => report(alloc, told, world.journal(), &space),
+        Format::Report => report(alloc, outcomes, world.journal(), &space),
         Format::Json => json(alloc, world.journal(), &space),
     }
 }
@@ -75,24 +75,24 @@ fn json(alloc: Global, journal: &List<Item>, space: &Space) -> Result<Vec<u8>, M
 /// The lines of what was told, of the journal and of the namespace at the end.
 fn report(
     alloc: Global,
-    told: &List<Outcome>,
+    outcomes: &List<Outcome>,
     journal: &List<Item>,
     space: &Space,
 ) -> Result<Vec<u8>, Memory>
-    ensures { IfOk result (λ v. v.items ≡ report_text told.now journal.now space.now) }
+    ensures { IfOk result (λ v. v.items ≡ report_text outcomes.now journal.now space.now) }
 {
     let mut report = Vec::new(alloc);
-    outcomes(alloc, told, &mut report)?;
+    write_outcomes(alloc, outcomes, &mut report)?;
     items(alloc, journal, &mut report)?;
     space_lines(alloc, space, &mut report)?;
-    let events = told.len() as u64;
+    let events = outcomes.len() as u64;
     let admitted = journal.len() as u64;
     let nodes = space.len() as u64;
     done_line(alloc, events, admitted, nodes, &mut report)?;
     Ok(report)
 }
 
-fn outcomes(alloc: Global, all: &List<Outcome>, out: &mut Vec<u8>) -> Result<(), Memory>
+fn write_outcomes(alloc: Global, all: &List<Outcome>, out: &mut Vec<u8>) -> Result<(), Memory>
     ensures { OnOk result (out.new.items ≡ out.old.items ++ outcomes_text 1 all.now) }
 {
     for (at, o) in all.as_slice().iter().enumerate() {

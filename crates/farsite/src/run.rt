@@ -32,10 +32,10 @@ pub(crate) fn run(alloc: Global, schedule: &Schedule) -> Result<(World, List<Out
     ensures packets { (line : ℕ) → IsErrOf result (Packets line) →
         stop_of schedule.now ≡ Some (AtPackets line) }
 {
-    let mut told = List::new(alloc);
+    let mut outcomes = List::new(alloc);
     let mut world = World::new(alloc, &schedule.head)?;
-    match run_all(alloc, schedule.events.as_slice(), &mut world, &mut told) {
-        Ok(()) => Ok((world, told)),
+    match run_all(alloc, schedule.events.as_slice(), &mut world, &mut outcomes) {
+        Ok(()) => Ok((world, outcomes)),
         Err(e) => {
             world.discard();
             Err(e)
@@ -49,13 +49,13 @@ fn run_all(
     alloc: Global,
     events: &[Event],
     world: &mut World,
-    told: &mut List<Outcome>,
+    outcomes: &mut List<Outcome>,
 ) -> Result<(), RunError>
     requires { MayHappen world.old events.now }
-    ensures run { OnOk result (record { world = world.new; outcomes = told.new } ≡
-        run_on (record { world = world.old; outcomes = told.old }) events.now) }
+    ensures run { OnOk result (record { world = world.new; outcomes = outcomes.new } ≡
+        run_on (record { world = world.old; outcomes = outcomes.old }) events.now) }
     ensures known { OnOk result
-        (NoneHas is_link_strange told.old → NoneHas is_link_strange told.new) }
+        (NoneHas is_link_strange outcomes.old → NoneHas is_link_strange outcomes.new) }
     ensures carried { OnOk result (AllCarry world.old events.now) }
     ensures whole { OnOk result (stop_in world.old 2 events.now ≡ None) }
     ensures spent { (counter : TheCounter) → IsErrOf result (Spent counter) →
@@ -66,7 +66,7 @@ fn run_all(
 {
     for (at, e) in events.iter().enumerate() {
         let done = match world.step(alloc, e) {
-            Ok(outcome) => told.push(outcome),
+            Ok(outcome) => outcomes.push(outcome),
             Err(e) => return Err(run_error(e)),
         };
         match flooded(world.packet_count(), at as u64 + 2) {

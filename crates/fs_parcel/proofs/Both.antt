@@ -153,8 +153,8 @@ pub map_with_rows : (f : Row → Row) → ((r : Row) → (f r).no ≡ r.no) → 
 map_with_rows f same [] rows = refl
 map_with_rows f same (r ∷ rs) rows = map_with_rows f same rs (with_row r rows) ∙ ap (with_rows (map f rs)) (map_put f same r rows)
 
-pub renewed_both : (number : LeaseNo) (until : ℕ) (off on : List Row) → map (renewed_row number until) (in_one_list off on) ≡ in_one_list (map (renewed_row number until) off) (map (renewed_row number until) on)
-renewed_both number until off on = map_with_rows (renewed_row number until) (λ r. (renewed_same number until r).number) on off
+pub renewed_both : (number : LeaseNo) (until : ℕ) (plain modes : List Row) → map (renewed_row number until) (in_one_list plain modes) ≡ in_one_list (map (renewed_row number until) plain) (map (renewed_row number until) modes)
+renewed_both number until plain modes = map_with_rows (renewed_row number until) (λ r. (renewed_same number until r).number) modes plain
 
 -- ## The parts of both tables
 
@@ -167,18 +167,21 @@ all_fail p [] h = refl
 all_fail p (r ∷ rs) h = ap (λ b. cond b (r ∷ filter p rs) (filter p rs)) (h r (inl refl)) ∙ all_fail p rs (λ x i. h x (inr i))
 
 -- those of both tables that are off modes are those of the one, and those on modes of the other
-pub off_part : (off on : List Row) → IsTable off → IsModeTable on → is_ordered (in_one_list off on) ≡ true → rows_off_modes (in_one_list off on) ≡ off
-off_part off on t u o =
-    filter_with_rows is_off_modes on off o
-    ∙ ap (λ rows. with_rows rows (filter is_off_modes off)) (all_fail is_off_modes on (λ r i. u.on_modes r i))
-    ∙ all_pass is_off_modes off t.off_modes
+pub plain_part : (plain modes : List Row) → IsTable plain → IsModeTable modes → is_ordered (in_one_list plain modes) ≡ true
+    → rows_off_modes (in_one_list plain modes) ≡ plain
+plain_part plain modes t u o =
+    filter_with_rows is_off_modes modes plain o
+    ∙ ap (λ rows. with_rows rows (filter is_off_modes plain)) (all_fail is_off_modes modes (λ r i. u.on_modes r i))
+    ∙ all_pass is_off_modes plain t.off_modes
 
-pub on_part : (off on : List Row) → IsTable off → IsModeTable on → is_ordered (in_one_list off on) ≡ true → rows_on_modes (in_one_list off on) ≡ on
-on_part off on t u o =
-    filter_with_rows (λ r. not (is_off_modes r)) on off o
-    ∙ ap (with_rows (filter (λ r. not (is_off_modes r)) on)) (all_fail (λ r. not (is_off_modes r)) off (λ r i. ap not (t.off_modes r i)))
-    ∙ ap (λ rows. with_rows rows []) (all_pass (λ r. not (is_off_modes r)) on (λ r i. ap not (u.on_modes r i)))
-    ∙ alone on u.ordered
+pub modes_part : (plain modes : List Row) → IsTable plain → IsModeTable modes → is_ordered (in_one_list plain modes) ≡ true
+    → rows_on_modes (in_one_list plain modes) ≡ modes
+modes_part plain modes t u o =
+    filter_with_rows (λ r. not (is_off_modes r)) modes plain o
+    ∙ ap (with_rows (filter (λ r. not (is_off_modes r)) modes))
+    (all_fail (λ r. not (is_off_modes r)) plain (λ r i. ap not (t.off_modes r i)))
+    ∙ ap (λ rows. with_rows rows []) (all_pass (λ r. not (is_off_modes r)) modes (λ r i. ap not (u.on_modes r i)))
+    ∙ alone modes u.ordered
 
 -- the rows are both parts
 pub both_parts : (rows : List Row) → is_ordered rows ≡ true → in_one_list (rows_off_modes rows) (rows_on_modes rows) ≡ rows
@@ -186,14 +189,14 @@ both_parts rows o = two_parts is_off_modes rows o
 
 -- both tables
 abbrev pub AreBoth : List Row → List Row → Type 0
-AreBoth off on = IsTable off × (IsModeTable on × AreRows (in_one_list off on))
+AreBoth plain modes = IsTable plain × (IsModeTable modes × AreRows (in_one_list plain modes))
 
 -- what is told by the part that is off modes is told by that table, and so on modes
-pub told_off : {A : Type 0} (f : List Row → A) (off on : List Row) → AreBoth off on → f (in_one_list off on) ≡ f (rows_off_modes (in_one_list off on)) → f off ≡ f (in_one_list off on)
-told_off f off on t e = sym (e ∙ ap f (off_part off on t.0 t.1.0 t.1.1.ordered))
+pub told_plain : {A : Type 0} (f : List Row → A) (plain modes : List Row) → AreBoth plain modes → f (in_one_list plain modes) ≡ f (rows_off_modes (in_one_list plain modes)) → f plain ≡ f (in_one_list plain modes)
+told_plain f plain modes t e = sym (e ∙ ap f (plain_part plain modes t.0 t.1.0 t.1.1.ordered))
 
-pub told_on : {A : Type 0} (f : List Row → A) (off on : List Row) → AreBoth off on → f (in_one_list off on) ≡ f (rows_on_modes (in_one_list off on)) → f on ≡ f (in_one_list off on)
-told_on f off on t e = sym (e ∙ ap f (on_part off on t.0 t.1.0 t.1.1.ordered))
+pub told_modes : {A : Type 0} (f : List Row → A) (plain modes : List Row) → AreBoth plain modes → f (in_one_list plain modes) ≡ f (rows_on_modes (in_one_list plain modes)) → f modes ≡ f (in_one_list plain modes)
+told_modes f plain modes t e = sym (e ∙ ap f (modes_part plain modes t.0 t.1.0 t.1.1.ordered))
 
 pub passing : {X : Type 0} (p : X → Bool) (xs : List X) (x : X) → In x (filter p xs) → p x ≡ true
 passing p [] x i = absurd i
@@ -204,15 +207,15 @@ passing p (y ∷ ys) x i =
     ] refl i
 
 -- each part makes a table
-pub off_table : (rows : List Row) → AreRows rows → IsTable (rows_off_modes rows)
-off_table rows t = record {
+pub plain_table : (rows : List Row) → AreRows rows → IsTable (rows_off_modes rows)
+plain_table rows t = record {
   ordered = ordered_filter is_off_modes rows t.ordered;
   off_modes = λ r i. passing is_off_modes rows r i;
   free = NoPlainConflict-filter is_off_modes rows t.free;
 }
 
-pub on_table : (rows : List Row) → AreRows rows → IsModeTable (rows_on_modes rows)
-on_table rows t = record {
+pub modes_table : (rows : List Row) → AreRows rows → IsModeTable (rows_on_modes rows)
+modes_table rows t = record {
   ordered = ordered_filter (λ r. not (is_off_modes r)) rows t.ordered;
   on_modes = λ r i. not-true (tells_no_mode r.field) (passing (λ x. not (is_off_modes x)) rows r i);
 }
@@ -227,8 +230,8 @@ are_none = record { ordered = refl; free = λ a b i j. absurd i }
 -- ## What calls make of both tables
 
 -- those that pass stay both tables
-pub filtered_both : (test : Row → Bool) (off on : List Row) → AreBoth off on → in_one_list (filter test off) (filter test on) ≡ filter test (in_one_list off on)
-filtered_both test off on t = sym (filter_with_rows test on off t.1.1.ordered)
+pub filtered_both : (test : Row → Bool) (plain modes : List Row) → AreBoth plain modes → in_one_list (filter test plain) (filter test modes) ≡ filter test (in_one_list plain modes)
+filtered_both test plain modes t = sym (filter_with_rows test modes plain t.1.1.ordered)
 
 -- a row of the number is renewed where there is one
 pub renewed_if : (r : Result (Unit {0}) Unknown) (number : LeaseNo) (until : ℕ) (old new : List Row) → IsOk r ↔ (list_any (has_no number) old ≡ true) → OnOk r (new ≡ map (renewed_row number until) old) → OnErr r (new ≡ old) → new ≡ map (renewed_row number until) old
@@ -251,38 +254,41 @@ filter_swap p q (x ∷ xs) =
 
 -- the rows with several more, of which those that do not pass the test were dropped before
 abbrev pub after : (Row → Bool) → List Row → List Row → List Row → List Row
-after test more off on = with_rows more (filter test (in_one_list off on))
+after test more plain modes = with_rows more (filter test (in_one_list plain modes))
 
-pub after_off : (test : Row → Bool) (more off on : List Row) → AreBoth off on → AreRows (after test more off on) → with_rows (rows_off_modes more) (filter test off) ≡ rows_off_modes (after test more off on)
-after_off test more off on t a = sym (filter_with_rows is_off_modes more (filter test (in_one_list off on)) a.ordered
-    ∙ ap (with_rows (rows_off_modes more)) (filter_swap is_off_modes test (in_one_list off on) ∙ ap (filter test) (off_part off on t.0 t.1.0 t.1.1.ordered)))
+pub after_plain : (test : Row → Bool) (more plain modes : List Row) → AreBoth plain modes → AreRows (after test more plain modes) → with_rows (rows_off_modes more) (filter test plain) ≡ rows_off_modes (after test more plain modes)
+after_plain test more plain modes t a = sym (filter_with_rows is_off_modes more (filter test (in_one_list plain modes)) a.ordered
+    ∙ ap (with_rows (rows_off_modes more)) (filter_swap is_off_modes test (in_one_list plain modes) ∙ ap (filter test) (plain_part plain modes t.0 t.1.0 t.1.1.ordered)))
 
-pub after_on : (test : Row → Bool) (more off on : List Row) → AreBoth off on → AreRows (after test more off on) → with_rows (rows_on_modes more) (filter test on) ≡ rows_on_modes (after test more off on)
-after_on test more off on t a = sym (filter_with_rows (λ r. not (is_off_modes r)) more (filter test (in_one_list off on)) a.ordered
-    ∙ ap (with_rows (rows_on_modes more)) (filter_swap (λ r. not (is_off_modes r)) test (in_one_list off on) ∙ ap (filter test) (on_part off on t.0 t.1.0 t.1.1.ordered)))
+pub after_modes : (test : Row → Bool) (more plain modes : List Row) → AreBoth plain modes → AreRows (after test more plain modes) → with_rows (rows_on_modes more) (filter test modes) ≡ rows_on_modes (after test more plain modes)
+after_modes test more plain modes t a =
+    sym (filter_with_rows (λ r. not (is_off_modes r)) more (filter test (in_one_list plain modes)) a.ordered
+    ∙ ap (with_rows (rows_on_modes more)) (filter_swap (λ r. not (is_off_modes r)) test (in_one_list plain modes) ∙ ap (filter test) (modes_part plain modes t.0 t.1.0 t.1.1.ordered)))
 
 -- each table takes its part of them
-pub takes_off : (test : Row → Bool) (more off on : List Row) → AreBoth off on → AreRows (after test more off on) → IsTable (with_rows (rows_off_modes more) (filter test off))
-takes_off test more off on t a = subst IsTable (sym (after_off test more off on t a)) (off_table (after test more off on) a)
+pub takes_plain : (test : Row → Bool) (more plain modes : List Row) → AreBoth plain modes → AreRows (after test more plain modes) → IsTable (with_rows (rows_off_modes more) (filter test plain))
+takes_plain test more plain modes t a =
+    subst IsTable (sym (after_plain test more plain modes t a)) (plain_table (after test more plain modes) a)
 
-pub takes_on : (test : Row → Bool) (more off on : List Row) → AreBoth off on → AreRows (after test more off on) → IsModeTable (with_rows (rows_on_modes more) (filter test on))
-takes_on test more off on t a = subst IsModeTable (sym (after_on test more off on t a)) (on_table (after test more off on) a)
+pub takes_modes : (test : Row → Bool) (more plain modes : List Row) → AreBoth plain modes → AreRows (after test more plain modes) → IsModeTable (with_rows (rows_on_modes more) (filter test modes))
+takes_modes test more plain modes t a =
+    subst IsModeTable (sym (after_modes test more plain modes t a)) (modes_table (after test more plain modes) a)
 
 -- and both make all
-pub takes_all : (test : Row → Bool) (more off on : List Row) → AreBoth off on → AreRows (after test more off on) → in_one_list (with_rows (rows_off_modes more) (filter test off)) (with_rows (rows_on_modes more) (filter test on)) ≡ after test more off on
-takes_all test more off on t a =
-    ap (λ rows. in_one_list rows (with_rows (rows_on_modes more) (filter test on))) (after_off test more off on t a)
-    ∙ ap (in_one_list (rows_off_modes (after test more off on))) (after_on test more off on t a)
-    ∙ both_parts (after test more off on) a.ordered
+pub takes_all : (test : Row → Bool) (more plain modes : List Row) → AreBoth plain modes → AreRows (after test more plain modes) → in_one_list (with_rows (rows_off_modes more) (filter test plain)) (with_rows (rows_on_modes more) (filter test modes)) ≡ after test more plain modes
+takes_all test more plain modes t a =
+    ap (λ rows. in_one_list rows (with_rows (rows_on_modes more) (filter test modes))) (after_plain test more plain modes t a)
+    ∙ ap (in_one_list (rows_off_modes (after test more plain modes))) (after_modes test more plain modes t a)
+    ∙ both_parts (after test more plain modes) a.ordered
 
-pub taken : (test : Row → Bool) (more off on : List Row) → AreBoth off on → AreRows (after test more off on) → AreBoth (with_rows (rows_off_modes more) (filter test off)) (with_rows (rows_on_modes more) (filter test on))
-taken test more off on t a = (takes_off test more off on t a, (takes_on test more off on t a, subst AreRows (sym (takes_all test more off on t a)) a))
+pub taken : (test : Row → Bool) (more plain modes : List Row) → AreBoth plain modes → AreRows (after test more plain modes) → AreBoth (with_rows (rows_off_modes more) (filter test plain)) (with_rows (rows_on_modes more) (filter test modes))
+taken test more plain modes t a = (takes_plain test more plain modes t a, (takes_modes test more plain modes t a, subst AreRows (sym (takes_all test more plain modes t a)) a))
 
 -- all or nothing
-pub either_both : (r : Result (Unit {0}) Memory) (off on later_off later_on new_off new_on : List Row) → AreBoth off on → AreBoth later_off later_on → OnOk r (new_on ≡ later_on) → OnErr r (new_on ≡ on) → OnOk r (new_off ≡ later_off) → OnErr r (new_off ≡ off) → AreBoth new_off new_on
-either_both (Ok u) off on later_off later_on new_off new_on old new p q s u' = rw (p, s) new
-either_both (Err e) off on later_off later_on new_off new_on old new p q s u' = rw (q, u') old
+pub either_both : (r : Result (Unit {0}) Memory) (plain modes later_plain later_modes new_plain new_modes : List Row) → AreBoth plain modes → AreBoth later_plain later_modes → OnOk r (new_modes ≡ later_modes) → OnErr r (new_modes ≡ modes) → OnOk r (new_plain ≡ later_plain) → OnErr r (new_plain ≡ plain) → AreBoth new_plain new_modes
+either_both (Ok u) plain modes later_plain later_modes new_plain new_modes old new p q s u' = rw (p, s) new
+either_both (Err e) plain modes later_plain later_modes new_plain new_modes old new p q s u' = rw (q, u') old
 
-pub ok_both : (r : Result (Unit {0}) Memory) (later_off later_on new_off new_on rows : List Row) → in_one_list later_off later_on ≡ rows → OnOk r (new_on ≡ later_on) → OnOk r (new_off ≡ later_off) → OnOk r (in_one_list new_off new_on ≡ rows)
-ok_both (Ok u) later_off later_on new_off new_on rows e p s = rw (p, s) e
-ok_both (Err x) later_off later_on new_off new_on rows e p s = tt
+pub ok_both : (r : Result (Unit {0}) Memory) (later_plain later_modes new_plain new_modes rows : List Row) → in_one_list later_plain later_modes ≡ rows → OnOk r (new_modes ≡ later_modes) → OnOk r (new_plain ≡ later_plain) → OnOk r (in_one_list new_plain new_modes ≡ rows)
+ok_both (Ok u) later_plain later_modes new_plain new_modes rows e p s = rw (p, s) e
+ok_both (Err x) later_plain later_modes new_plain new_modes rows e p s = tt

@@ -19,7 +19,7 @@ use Rattle.fs_rows.specs.Moving.{are_new, are_off_modes, fits, is_new}
 use Rattle.fs_rows.specs.Table.{IsTable}
 use Rattle.fs_rows.proofs.Comes.{any_put, came_table}
 use Rattle.fs_parcel.specs.Rows.{AreRows, in_one_list, is_off_modes, rows_off_modes}
-use Rattle.fs_parcel.proofs.Both.{filter_with_rows, off_table, passing}
+use Rattle.fs_parcel.proofs.Both.{filter_with_rows, plain_table, passing}
 
 -- ## New numbers
 
@@ -43,18 +43,19 @@ any_with_rows test (r ∷ rs) rows = any_with_rows test rs (with_row r rows) ∙
 
 -- what is new to both tables
 abbrev HasBoth : List Row → List Row → List Row → Type 0
-HasBoth rows off on = (test : Row → Bool) → list_any test rows ≡ (list_any test off || list_any test on)
+HasBoth rows plain modes = (test : Row → Bool) → list_any test rows ≡ (list_any test plain || list_any test modes)
 
-new_parts : (rows off on more : List Row) → HasBoth rows off on → are_new rows more ≡ (are_new off more && are_new on more)
-new_parts rows off on [] h = refl
-new_parts rows off on (m ∷ ms) h =
+new_parts : (rows plain modes more : List Row) → HasBoth rows plain modes → are_new rows more ≡ (are_new plain more && are_new modes more)
+new_parts rows plain modes [] h = refl
+new_parts rows plain modes (m ∷ ms) h =
     ap (λ b. not b && are_new (with_row m rows) ms) (h (has_no m.no))
-    ∙ ap (λ b. not (list_any (has_no m.no) off || list_any (has_no m.no) on) && b) (new_parts (with_row m rows) (with_row m off) (with_row m on) ms (λ test.
+    ∙ ap (λ b. not (list_any (has_no m.no) plain || list_any (has_no m.no) modes) && b) (new_parts (with_row m rows) (with_row m plain) (with_row m modes) ms (λ test.
     any_put test (λ r. no_before m.no r.no) m rows
     ∙ ap (λ b. test m || b) (h test)
-    ∙ twice (test m) (list_any test off) (list_any test on)
-    ∙ sym (ap (λ b. b || list_any test (with_row m on)) (any_put test (λ r. no_before m.no r.no) m off) ∙ ap (λ b. (test m || list_any test off) || b) (any_put test (λ r. no_before m.no r.no) m on))))
-    ∙ shared (list_any (has_no m.no) off) (list_any (has_no m.no) on) (are_new (with_row m off) ms) (are_new (with_row m on) ms) where
+    ∙ twice (test m) (list_any test plain) (list_any test modes)
+    ∙ sym (ap (λ b. b || list_any test (with_row m modes)) (any_put test (λ r. no_before m.no r.no) m plain) ∙ ap (λ b. (test m || list_any test plain) || b) (any_put test (λ r. no_before m.no r.no) m modes))))
+    ∙ shared (list_any (has_no m.no) plain) (list_any (has_no m.no) modes) (are_new (with_row m plain) ms)
+    (are_new (with_row m modes) ms) where
       twice : (a b c : Bool) → (a || (b || c)) ≡ ((a || b) || (a || c))
       twice true b c = refl
       twice false b c = refl
@@ -67,8 +68,8 @@ new_parts rows off on (m ∷ ms) h =
       shared false false false d = refl
 
 -- a number is new to both tables where it is new to each
-pub new_both : (off on more : List Row) → are_new (in_one_list off on) more ≡ (are_new off more && are_new on more)
-new_both off on more = new_parts (in_one_list off on) off on more (λ test. any_with_rows test on off)
+pub new_both : (plain modes more : List Row) → are_new (in_one_list plain modes) more ≡ (are_new plain more && are_new modes more)
+new_both plain modes more = new_parts (in_one_list plain modes) plain modes more (λ test. any_with_rows test modes plain)
 
 -- ## No conflict
 
@@ -97,8 +98,8 @@ quiet_on a b h =
     ∙ and-false (not (a.session.0 == b.session.0))
 
 -- where no two of those off modes conflict plainly, no two at all do
-pub off_are_enough : (rows : List Row) → NoPlainConflict (rows_off_modes rows) → NoPlainConflict rows
-off_are_enough rows free a b i j =
+pub plain_are_enough : (rows : List Row) → NoPlainConflict (rows_off_modes rows) → NoPlainConflict rows
+plain_are_enough rows free a b i j =
     elim (is_off_modes a) as (λ p. is_off_modes a ≡ p → plain_conflict a b ≡ false) [
       | true ↦ λ e. elim (is_off_modes b) as (λ p. is_off_modes b ≡ p → plain_conflict a b ≡ false) [
         | true ↦ λ g. free a b (In_filtered is_off_modes rows a i e) (In_filtered is_off_modes rows b j g)
@@ -108,12 +109,12 @@ off_are_enough rows free a b i j =
     ] refl
 
 -- those off modes are
-pub are_off : (rows : List Row) → are_off_modes (rows_off_modes rows) ≡ true
-are_off rows = In-all is_off_modes (rows_off_modes rows) (λ r i. passing is_off_modes rows r i)
+pub are_plain : (rows : List Row) → are_off_modes (rows_off_modes rows) ≡ true
+are_plain rows = In-all is_off_modes (rows_off_modes rows) (λ r i. passing is_off_modes rows r i)
 
 -- rows with new numbers, of which those off modes fit, leave all in order
 pub came_rows : (rows more : List Row) → AreRows rows → are_new rows more ≡ true → fits (rows_off_modes rows) (rows_off_modes more) ≡ true → AreRows (with_rows more rows)
 came_rows rows more t n f =
     let o : is_ordered (with_rows more rows) ≡ true = ordered_more rows more t.ordered n in
-    let off : IsTable (rows_off_modes (with_rows more rows)) = subst IsTable (sym (filter_with_rows is_off_modes more rows o)) (came_table (rows_off_modes rows) (rows_off_modes more) (off_table rows t) (are_off more) f) in
-    record { ordered = o; free = off_are_enough (with_rows more rows) off.free }
+    let plain : IsTable (rows_off_modes (with_rows more rows)) = subst IsTable (sym (filter_with_rows is_off_modes more rows o)) (came_table (rows_off_modes rows) (rows_off_modes more) (plain_table rows t) (are_plain more) f) in
+    record { ordered = o; free = plain_are_enough (with_rows more rows) plain.free }

@@ -8,15 +8,15 @@ use Rattle.fs_rows.specs.Moving.{are_new}
 use Rattle.fs_rows.specs.Moving as off_modes
 use Rattle.fs_parcel.specs.Parcel.{rows_fit, selves_of_records}
 use Rattle.fs_parcel.specs.Rows.{in_one_list, rows_off_modes, rows_on_modes}
-use Rattle.fs_parcel.proofs.Both.{AreBoth, off_part, on_part}
+use Rattle.fs_parcel.proofs.Both.{AreBoth, plain_part, modes_part}
 
 -- the answers of both tables are that of all rows
-pub by_tables : (off on : List Row) (p : Parcel) → AreBoth off on → are_new (in_one_list off on) p.rows ≡ true
-    → (off_modes.fits off (rows_off_modes p.rows) && on_modes.fits (selves_listed (selves_of_records p.records)) on (rows_on_modes p.rows)) ≡ rows_fit (in_one_list off on) p
-by_tables off on p t n =
-    ap (λ rows. off_modes.fits rows (rows_off_modes p.rows) && on_modes.fits (selves_listed (selves_of_records p.records)) on (rows_on_modes p.rows)) (sym (off_part off on t.0 t.1.0 t.1.1.ordered))
-    ∙ ap (λ rows. off_modes.fits (rows_off_modes (in_one_list off on)) (rows_off_modes p.rows) && on_modes.fits (selves_listed (selves_of_records p.records)) rows (rows_on_modes p.rows)) (sym (on_part off on t.0 t.1.0 t.1.1.ordered))
-    ∙ ap (λ b. b && (off_modes.fits (rows_off_modes (in_one_list off on)) (rows_off_modes p.rows) && on_modes.fits (selves_listed (selves_of_records p.records)) (rows_on_modes (in_one_list off on)) (rows_on_modes p.rows))) (sym n)
+pub by_tables : (plain modes : List Row) (p : Parcel) → AreBoth plain modes → are_new (in_one_list plain modes) p.rows ≡ true
+    → (off_modes.fits plain (rows_off_modes p.rows) && on_modes.fits (selves_listed (selves_of_records p.records)) modes (rows_on_modes p.rows)) ≡ rows_fit (in_one_list plain modes) p
+by_tables plain modes p t n =
+    ap (λ rows. off_modes.fits rows (rows_off_modes p.rows) && on_modes.fits (selves_listed (selves_of_records p.records)) modes (rows_on_modes p.rows)) (sym (plain_part plain modes t.0 t.1.0 t.1.1.ordered))
+    ∙ ap (λ rows. off_modes.fits (rows_off_modes (in_one_list plain modes)) (rows_off_modes p.rows) && on_modes.fits (selves_listed (selves_of_records p.records)) rows (rows_on_modes p.rows)) (sym (modes_part plain modes t.0 t.1.0 t.1.1.ordered))
+    ∙ ap (λ b. b && (off_modes.fits (rows_off_modes (in_one_list plain modes)) (rows_off_modes p.rows) && on_modes.fits (selves_listed (selves_of_records p.records)) (rows_on_modes (in_one_list plain modes)) (rows_on_modes p.rows))) (sym n)
 
 -- where the numbers are not new they do not fit
 pub not_new : (rows : List Row) (p : Parcel) → are_new rows p.rows ≡ false → false ≡ rows_fit rows p

@@ -68,5 +68,5 @@ module _ (prefix : List ℕ) (owners : Owners) (me : ℕ) where
       ∙ least_assoc (locked_in prefix owners me rows) (lock_below prefix owners me r) (locked_in prefix owners me rs)
 
   -- it is the lesser of those of the two tables
-  pub locked_both : (off on : List Row) → least_of (locked_in prefix owners me off) (locked_in prefix owners me on) ≡ locked_in prefix owners me (in_one_list off on)
-  locked_both off on = sym (locked_with on off)
+  pub locked_both : (plain modes : List Row) → least_of (locked_in prefix owners me plain) (locked_in prefix owners me modes) ≡ locked_in prefix owners me (in_one_list plain modes)
+  locked_both plain modes = sym (locked_with modes plain)

@@ -10,18 +10,20 @@ use Rattle.fs_parcel.specs.Rows.{AreRows, in_one_list, rows_off_modes, rows_on_m
 use Rattle.fs_parcel.proofs.Both.{AreBoth, after, filtered_both, filtered_rows, taken}
 
 -- what came stands in both tables
-pub came_both : (more off on : List Row) → AreBoth off on → AreRows (with_rows more (in_one_list off on)) → AreRows (in_one_list (with_rows (rows_off_modes more) off) (with_rows (rows_on_modes more) on))
-came_both more off on t a =
-    let b : AreRows (after (is_live 0 1) more off on) = subst (λ rows. AreRows (with_rows more rows)) (sym (all_live (in_one_list off on))) a in
-    let d : AreRows (in_one_list (with_rows (rows_off_modes more) (filter (is_live 0 1) off)) (with_rows (rows_on_modes more) (filter (is_live 0 1) on))) = (taken (is_live 0 1) more off on t b).1.1 in
-    let e : AreRows (in_one_list (with_rows (rows_off_modes more) off) (with_rows (rows_on_modes more) (filter (is_live 0 1) on))) = subst (λ rows. AreRows (in_one_list (with_rows (rows_off_modes more) rows) (with_rows (rows_on_modes more) (filter (is_live 0 1) on)))) (all_live off) d in
-    subst (λ rows. AreRows (in_one_list (with_rows (rows_off_modes more) off) (with_rows (rows_on_modes more) rows))) (all_live on) e
+pub came_both : (more plain modes : List Row) → AreBoth plain modes → AreRows (with_rows more (in_one_list plain modes)) → AreRows (in_one_list (with_rows (rows_off_modes more) plain) (with_rows (rows_on_modes more) modes))
+came_both more plain modes t a =
+    let b : AreRows (after (is_live 0 1) more plain modes) =
+    subst (λ rows. AreRows (with_rows more rows)) (sym (all_live (in_one_list plain modes))) a in
+    let d : AreRows (in_one_list (with_rows (rows_off_modes more) (filter (is_live 0 1) plain)) (with_rows (rows_on_modes more) (filter (is_live 0 1) modes))) = (taken (is_live 0 1) more plain modes t b).1.1 in
+    let e : AreRows (in_one_list (with_rows (rows_off_modes more) plain) (with_rows (rows_on_modes more) (filter (is_live 0 1) modes))) = subst (λ rows. AreRows (in_one_list (with_rows (rows_off_modes more) rows) (with_rows (rows_on_modes more) (filter (is_live 0 1) modes)))) (all_live plain) d in
+    subst (λ rows. AreRows (in_one_list (with_rows (rows_off_modes more) plain) (with_rows (rows_on_modes more) rows))) (all_live modes) e
 
 -- what passes a test stays in both tables
-pub passed_both : (test : Row → Bool) (off on : List Row) → AreBoth off on → AreRows (in_one_list (filter test off) (filter test on))
-passed_both test off on t = subst AreRows (sym (filtered_both test off on t)) (filtered_rows test (in_one_list off on) t.1.1)
+pub passed_both : (test : Row → Bool) (plain modes : List Row) → AreBoth plain modes
+    → AreRows (in_one_list (filter test plain) (filter test modes))
+passed_both test plain modes t = subst AreRows (sym (filtered_both test plain modes t)) (filtered_rows test (in_one_list plain modes) t.1.1)
 
 -- what passes a test stays, or all does
-pub either_passed : {A E : Type 0} (r : Result A E) (test : Row → Bool) (off on new_off new_on : List Row) → AreBoth off on → OnOk r (new_off ≡ filter test off) → OnErr r (new_off ≡ off) → OnOk r (new_on ≡ filter test on) → OnErr r (new_on ≡ on) → AreRows (in_one_list new_off new_on)
-either_passed (Ok a) test off on new_off new_on t p q s u = rw (p, s) (passed_both test off on t)
-either_passed (Err e) test off on new_off new_on t p q s u = rw (q, u) t.1.1
+pub either_passed : {A E : Type 0} (r : Result A E) (test : Row → Bool) (plain modes new_plain new_modes : List Row) → AreBoth plain modes → OnOk r (new_plain ≡ filter test plain) → OnErr r (new_plain ≡ plain) → OnOk r (new_modes ≡ filter test modes) → OnErr r (new_modes ≡ modes) → AreRows (in_one_list new_plain new_modes)
+either_passed (Ok a) test plain modes new_plain new_modes t p q s u = rw (p, s) (passed_both test plain modes t)
+either_passed (Err e) test plain modes new_plain new_modes t p q s u = rw (q, u) t.1.1

@@ -14,8 +14,8 @@ use Rattle.fs_rows.specs.Granted.{with_rows}
 use Rattle.fs_rows.specs.Moving.{are_new, is_new, is_on_given, rows_given}
 use Rattle.fs_rows.specs.Table.{IsTable}
 use Rattle.fs_parcel.specs.Rows.{AreRows, are_one_list, in_one_list}
-use Rattle.fs_parcel.proofs.Both.{all_pass, leads, not_back, off_part, ordered_before}
-use Rattle.fs_parcel.proofs.Coming.{off_are_enough, ordered_more}
+use Rattle.fs_parcel.proofs.Both.{all_pass, leads, not_back, plain_part, ordered_before}
+use Rattle.fs_parcel.proofs.Coming.{plain_are_enough, ordered_more}
 
 -- ## No number twice
 
@@ -57,8 +57,8 @@ same_test false true f g = g refl
 same_test false false f g = refl
 
 -- two tables make one list where the numbers of the second are new to the first
-pub one_list : (off on : List Row) → is_ordered off ≡ true → are_new off on ≡ are_one_list off on
-one_list off on o = same_test (are_new off on) (are_one_list off on) (ordered_more off on o) (were_new off on)
+pub one_list : (plain modes : List Row) → is_ordered plain ≡ true → are_new plain modes ≡ are_one_list plain modes
+one_list plain modes o = same_test (are_new plain modes) (are_one_list plain modes) (ordered_more plain modes o) (were_new plain modes)
 
 -- the piece of the root that is one alone gives all rows
 pub all_given : (rows : List Row) → rows_given [] (([], true) ∷ []) rows ≡ rows
@@ -67,5 +67,6 @@ all_given rows = all_pass (is_on_given [] (([], true) ∷ [])) rows (λ r i. ref
 -- ## What that makes of tables
 
 -- no two rows of them conflict plainly
-pub both_rows : (off on : List Row) → IsTable off → IsModeTable on → are_one_list off on ≡ true → AreRows (in_one_list off on)
-both_rows off on t u o = record { ordered = o; free = off_are_enough (in_one_list off on) (subst NoPlainConflict (sym (off_part off on t u o)) t.free) }
+pub both_rows : (plain modes : List Row) → IsTable plain → IsModeTable modes → are_one_list plain modes ≡ true
+    → AreRows (in_one_list plain modes)
+both_rows plain modes t u o = record { ordered = o; free = plain_are_enough (in_one_list plain modes) (subst NoPlainConflict (sym (plain_part plain modes t u o)) t.free) }

@@ -173,8 +173,8 @@ module _ (records : RecordMap) (rows : List Row) (map : Owners) (me : ℕ) (p : 
   in_order : AreRows all
   in_order = all_rows records rows map me p f t
 
-  on_part : rows_on_modes all ≡ of_modes
-  on_part = filter_with_rows (λ r. not (is_off_modes r)) p.rows rows in_order.ordered
+  modes_part : rows_on_modes all ≡ of_modes
+  modes_part = filter_with_rows (λ r. not (is_off_modes r)) p.rows rows in_order.ordered
 
   -- who may change what it tells of a file that is not given
   fixed_elsewhere : (file : List ℕ) → given file ≡ false → (m : Mode) (s : Session) → is_fixed all file m s ≡ is_fixed rows file m s
@@ -188,7 +188,7 @@ module _ (records : RecordMap) (rows : List Row) (map : Owners) (me : ℕ) (p : 
   fixed_on : (file : List ℕ) (m : Mode) (s : Session) → is_fixed all file m s ≡ is_fixed of_modes file m s
   fixed_on file m s = ap not (
       sym (any-filter_same (lets file m s) (λ r. not (is_off_modes r)) true (λ r e. self_on file m r.field (first (is_self file m r.field) (r.session.0 == s.0) e)) all)
-      ∙ ap (list_any (lets file m s)) on_part)
+      ∙ ap (list_any (lets file m s)) modes_part)
 
   abbrev listed : Selves
   listed = selves_listed (selves_of_records p.records)
@@ -197,7 +197,7 @@ module _ (records : RecordMap) (rows : List Row) (map : Owners) (me : ℕ) (p : 
   came_pair : (a b : Row) → In a p.rows → In b all → is_off_modes a ≡ false → is_off_modes b ≡ false → conflicts listed of_modes a b ≡ false
   came_pair a b i j oa ob =
       let alone : is_free listed of_modes a ≡ true = all-In (is_free listed of_modes) (rows_on_modes p.rows) (second (are_new (rows_on_modes rows) (rows_on_modes p.rows)) (list_all (is_free listed of_modes) (rows_on_modes p.rows)) (fit_on records rows map me p f)) a (In_filtered (λ r. not (is_off_modes r)) p.rows a i (ap not oa)) in
-      none_any (conflicts listed of_modes a) of_modes (not-true (list_any (conflicts listed of_modes a) of_modes) alone) b (subst (In b) on_part (In_filtered (λ r. not (is_off_modes r)) all b j (ap not ob)))
+      none_any (conflicts listed of_modes a) of_modes (not-true (list_any (conflicts listed of_modes a) of_modes) alone) b (subst (In b) modes_part (In_filtered (λ r. not (is_off_modes r)) all b j (ap not ob)))
 
   -- a row that came meets none
   first_quiet : (a b : Row) → In a p.rows → In b all → differ a b ≡ true → Meets listed of_modes a b ≡ false

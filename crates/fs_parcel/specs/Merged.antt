@@ -6,17 +6,17 @@ use Rattle.fs_parcel.specs.Rows.{in_one_list}
 
 -- all rows of two tables in falling order of number, in order
 abbrev pub both_of : List Row → List Row → List Row
-both_of off on = in_one_list (reverse off) (reverse on)
+both_of plain modes = in_one_list (reverse plain) (reverse modes)
 
 -- the numbers fall in both tables, and no two rows have one number
-pub record AreFalling (off on : List Row) : Type 0 where
-  pub off_falls : is_ordered (reverse off) ≡ true
-  pub on_falls : is_ordered (reverse on) ≡ true
-  pub all : is_ordered (both_of off on) ≡ true
+pub record AreFalling (plain modes : List Row) : Type 0 where
+  pub plain_falls : is_ordered (reverse plain) ≡ true
+  pub modes_falls : is_ordered (reverse modes) ≡ true
+  pub all : is_ordered (both_of plain modes) ≡ true
 
 -- the first row of the first table comes before that of the second, if there is one
 abbrev pub is_first : List Row → List Row → Bool
-is_first [] on = false
+is_first [] modes = false
 is_first (x ∷ xs) [] = true
 is_first (x ∷ xs) (y ∷ ys) = no_before x.no y.no
 
@@ -26,6 +26,6 @@ IsFirstOf None all rest = all ≡ []
 IsFirstOf (Some row) all rest = all ≡ row ∷ rest
 
 -- the row is taken out of two tables, and these are left
-pub record IsLeastTaken (row : Option Row) (off on new_off new_on : List Row) : Type 0 where
-  pub falling : AreFalling new_off new_on
-  pub next : IsFirstOf row (both_of off on) (both_of new_off new_on)
+pub record IsLeastTaken (row : Option Row) (plain modes new_plain new_modes : List Row) : Type 0 where
+  pub falling : AreFalling new_plain new_modes
+  pub next : IsFirstOf row (both_of plain modes) (both_of new_plain new_modes)

@@ -20,11 +20,11 @@ rows_on_modes rows = filter (λ r. not (is_off_modes r)) rows
 
 -- those of both tables, in order of number
 abbrev pub in_one_list : List Row → List Row → List Row
-in_one_list off on = with_rows on off
+in_one_list plain modes = with_rows modes plain
 
 -- both tables make one list in order: no number stands in both
 abbrev pub are_one_list : List Row → List Row → Bool
-are_one_list off on = is_ordered (in_one_list off on)
+are_one_list plain modes = is_ordered (in_one_list plain modes)
 
 -- the rows in order of number; no two of them conflict by their sessions, fields and kinds alone
 pub record AreRows (rows : List Row) : Type 0 where

@@ -19,10 +19,10 @@ use crate::parts::Parts;
 use fs_field::Row;
 use fs_ident::{FileId, List, Memory, Session, Twin};
 use fs_map::{FileMap, MapPiece};
-use fs_moderows::{Live as LiveOn, ModeRows};
+use fs_moderows::{Live as LiveModes, ModeRows};
 use fs_modes::Modes;
 use fs_record::{Parcel, Record, Records, selves};
-use fs_rows::{Live as LiveOff, Rows};
+use fs_rows::{Live as LivePlain, Rows};
 use std::alloc::Global;
 
 /// Whether the parcel is one that an honest server sends to `me`: its piece is the reduced list of its prefix; its records
@@ -50,14 +50,14 @@ pub fn fits(
 pub fn fits_at(
     alloc: Global,
     records: &Records,
-    rows: &LiveOff<'_>,
-    modes: &LiveOn<'_>,
+    rows: &LivePlain<'_>,
+    modes: &LiveModes<'_>,
     map: &FileMap,
     me: u8,
     p: &Parcel,
 ) -> Result<bool, Memory>
-    requires off { IsTable rows.now }
-    requires on { IsModeTable modes.now }
+    requires plain { IsTable rows.now }
+    requires modes { IsModeTable modes.now }
     requires numbers { are_one_list rows.now modes.now ≡ true }
     ensures { IfOk result (λ fit. fit ≡
         fits records.now (in_one_list rows.now modes.now) map.now me p.now) }
@@ -147,12 +147,12 @@ fn is_elsewhere(records: &Records, map: &FileMap, me: u8, p: &Parcel) -> bool
 /// Whether the rows have new numbers, and none conflicts.
 fn rows_fit(
     alloc: Global,
-    rows: &LiveOff<'_>,
-    modes: &LiveOn<'_>,
+    rows: &LivePlain<'_>,
+    modes: &LiveModes<'_>,
     p: &Parcel,
 ) -> Result<bool, Memory>
-    requires off { IsTable rows.now }
-    requires on { IsModeTable modes.now }
+    requires plain { IsTable rows.now }
+    requires modes { IsModeTable modes.now }
     requires numbers { are_one_list rows.now modes.now ≡ true }
     ensures { IfOk result (λ fit. fit ≡ rows_fit (in_one_list rows.now modes.now) p.now) }
 {
@@ -165,7 +165,7 @@ fn rows_fit(
 }
 
 /// Whether the numbers of the rows differ from one another and from those in both tables.
-fn are_new(rows: &LiveOff<'_>, modes: &LiveOn<'_>, more: &List<Row>) -> bool
+fn are_new(rows: &LivePlain<'_>, modes: &LiveModes<'_>, more: &List<Row>) -> bool
     ensures { result ≡ are_new (in_one_list rows.now modes.now) more.now }
 {
     rows.are_new(more) && modes.are_new(more)
@@ -173,15 +173,15 @@ fn are_new(rows: &LiveOff<'_>, modes: &LiveOn<'_>, more: &List<Row>) -> bool
 
 /// Whether each table takes its part.
 fn go_beside(
-    rows: &LiveOff<'_>,
-    modes: &LiveOn<'_>,
+    rows: &LivePlain<'_>,
+    modes: &LiveModes<'_>,
     selves: &List<(FileId, List<(Session, Modes)>)>,
     parts: &Parts,
 ) -> bool
-    ensures { result ≡ (off_modes.fits rows.now parts.now.off &&
-        on_modes.fits (selves_listed selves.now) modes.now parts.now.on) }
+    ensures { result ≡ (off_modes.fits rows.now parts.now.plain &&
+        on_modes.fits (selves_listed selves.now) modes.now parts.now.modes) }
 {
-    rows.fits(&parts.off) && modes.fits(selves, &parts.on)
+    rows.fits(&parts.plain) && modes.fits(selves, &parts.modes)
 }
 
 /// The sessions with handles on the file of each record, with the modes of each.

@@ -100,9 +100,9 @@ fn put_in(
     requires records { AreEachRecords p.records }
     requires distinct { are_distinct p.records ≡ true }
     requires absent { are_absent records.old p.records ≡ true }
-    requires off { IsTable
+    requires plain { IsTable
         (with_rows (rows_off_modes p.rows) (filter (is_live now skew) rows.old)) }
-    requires on { IsModeTable
+    requires modes { IsModeTable
         (with_rows (rows_on_modes p.rows) (filter (is_live now skew) modes.old)) }
     ensures records { OnOk result (records.new ≡ with_records p.records records.old) }
     ensures rows { OnOk result (rows.new ≡
@@ -115,7 +115,7 @@ fn put_in(
 {
     let parts = Parts::of(alloc, p.rows)?;
     let came = records.join_noting(alloc, p.records)?;
-    match modes.grant_all(alloc, now, skew, parts.on, rows, parts.off) {
+    match modes.grant_all(alloc, now, skew, parts.modes, rows, parts.plain) {
         Ok(()) => Ok(()),
         Err(wanting) => {
             records.leave_files(&came);

@@ -14,8 +14,8 @@ pub fn are_one_list(alloc: Global, rows: &Rows, modes: &ModeRows) -> Result<bool
     ensures { IfOk result (λ one. one ≡ are_one_list rows.now modes.now) }
 {
     let all = everything(alloc)?;
-    let on = modes.all().given(alloc, &all)?;
-    Ok(rows.all().are_new(&on))
+    let of_modes = modes.all().given(alloc, &all)?;
+    Ok(rows.all().are_new(&of_modes))
 }
 
 /// The piece that gives every identifier.

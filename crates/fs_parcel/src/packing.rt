@@ -16,24 +16,24 @@ use crate::parts::merged;
 use crate::refusing::refusal;
 use fs_ident::{FileId, Memory, PathNo, Twin};
 use fs_map::{FileMap, MapPiece};
-use fs_moderows::{Live as LiveOn, ModeRows};
+use fs_moderows::{Live as LiveModes, ModeRows};
 use fs_record::{Parcel, Records};
-use fs_rows::{Live as LiveOff, Rows};
+use fs_rows::{Live as LivePlain, Rows};
 use std::alloc::Global;
 
 /// A copy of all that `me` has below the prefix, which it manages. Nothing changes.
 pub fn packed(
     alloc: Global,
     records: &Records,
-    rows: &LiveOff<'_>,
-    modes: &LiveOn<'_>,
+    rows: &LivePlain<'_>,
+    modes: &LiveModes<'_>,
     map: &FileMap,
     me: u8,
     prefix: &FileId,
 ) -> Result<Parcel, Memory>
     requires mine { server_of map.now prefix.now ≡ me }
-    requires off { IsTable rows.now }
-    requires on { IsModeTable modes.now }
+    requires plain { IsTable rows.now }
+    requires modes { IsModeTable modes.now }
     requires numbers { are_one_list rows.now modes.now ≡ true }
     ensures { IfOk result (λ p. p ≡
         parcel_of records.now (in_one_list rows.now modes.now) map.now me prefix.now) }
@@ -46,12 +46,12 @@ pub fn packed(
 fn filled(
     alloc: Global,
     records: &Records,
-    rows: &LiveOff<'_>,
-    modes: &LiveOn<'_>,
+    rows: &LivePlain<'_>,
+    modes: &LiveModes<'_>,
     piece: MapPiece,
 ) -> Result<Parcel, Memory>
-    requires off { IsTable rows.now }
-    requires on { IsModeTable modes.now }
+    requires plain { IsTable rows.now }
+    requires modes { IsModeTable modes.now }
     requires numbers { are_one_list rows.now modes.now ≡ true }
     ensures prefix { IfOk result (λ p. p.prefix ≡ piece.prefix) }
     ensures piece { IfOk result (λ p. p.piece ≡ piece) }
@@ -60,12 +60,12 @@ fn filled(
     ensures rows { IfOk result (λ p. p.rows ≡
         rows_given piece.prefix piece.given (in_one_list rows.now modes.now)) }
 {
-    let off = rows.given(alloc, &piece)?;
-    let on = modes.given(alloc, &piece)?;
+    let plain = rows.given(alloc, &piece)?;
+    let of_modes = modes.given(alloc, &piece)?;
     Ok(Parcel {
         prefix: piece.prefix.copy(alloc)?,
         records: records.given(alloc, &piece)?,
-        rows: merged(alloc, off, on)?,
+        rows: merged(alloc, plain, of_modes)?,
         piece,
     })
 }
@@ -105,13 +105,15 @@ pub fn pack_up(
     ensures err_modes { OnErr result (modes.new ≡ modes.old) }
     ensures err_map { OnErr result (map.new ≡ map.old) }
 {
-    let off = rows.all();
-    let on = modes.all();
-    if let Some(why) = refusal(alloc, records, &off, &on, map, me, prefix, to, through)? {
+    let plain = rows.all();
+    let of_modes = modes.all();
+    if let Some(why) = refusal(
+        alloc, records, &plain, &of_modes, map, me, prefix, to, through,
+    )? {
         return Err(why);
     }
     let piece = map.piece(alloc, me, prefix)?;
-    let p = filled(alloc, records, &off, &on, piece)?;
+    let p = filled(alloc, records, &plain, &of_modes, piece)?;
     map.take(alloc, to, &p.piece)?;
     records.leave_these(&p.piece, &p.records);
     rows.leave(&p.piece);

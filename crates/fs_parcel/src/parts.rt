@@ -12,35 +12,35 @@ use std::alloc::Global;
 #[derive(Drop)]
 pub struct Parts {
     /// Those that are on no part of what sessions tell of modes.
-    pub off: List<Row>,
+    pub plain: List<Row>,
     /// Those on what sessions tell of modes.
-    pub on: List<Row>,
+    pub modes: List<Row>,
 }
 
 impl Parts {
     /// The rows by table, each part in the order in which they stand.
     pub fn of(alloc: Global, rows: List<Row>) -> Result<Parts, Memory>
-        ensures off { IfOk result (λ parts. parts.off ≡ rows_off_modes rows) }
-        ensures on { IfOk result (λ parts. parts.on ≡ rows_on_modes rows) }
+        ensures plain { IfOk result (λ parts. parts.plain ≡ rows_off_modes rows) }
+        ensures modes { IfOk result (λ parts. parts.modes ≡ rows_on_modes rows) }
     {
-        let mut off = List::new(alloc);
-        let mut on = List::new(alloc);
+        let mut plain = List::new(alloc);
+        let mut modes = List::new(alloc);
         for row in rows.into_vec() {
             if row.field.tells_no_mode() {
-                off.push(row)?;
+                plain.push(row)?;
             } else {
-                on.push(row)?;
+                modes.push(row)?;
             }
         }
-        Ok(Parts { off, on })
+        Ok(Parts { plain, modes })
     }
 }
 
 impl Twin for Parts {
     fn copy(&self, alloc: Global) -> Result<Parts, Memory> {
         Ok(Parts {
-            off: self.off.copy(alloc)?,
-            on: self.on.copy(alloc)?,
+            plain: self.plain.copy(alloc)?,
+            modes: self.modes.copy(alloc)?,
         })
     }
 
@@ -48,45 +48,46 @@ impl Twin for Parts {
 }
 
 /// The rows of two tables, each in order of number, as one list in order.
-pub(crate) fn merged(alloc: Global, off: List<Row>, on: List<Row>) -> Result<List<Row>, Memory>
-    requires off { is_ordered off ≡ true }
-    requires on { is_ordered on ≡ true }
-    requires both { is_ordered (in_one_list off on) ≡ true }
-    ensures { IfOk result (λ rows. rows ≡ in_one_list off on) }
+pub(crate) fn merged(alloc: Global, plain: List<Row>, modes: List<Row>) -> Result<List<Row>, Memory>
+    requires plain { is_ordered plain ≡ true }
+    requires modes { is_ordered modes ≡ true }
+    requires both { is_ordered (in_one_list plain modes) ≡ true }
+    ensures { IfOk result (λ rows. rows ≡ in_one_list plain modes) }
 {
-    let mut falling_off = off.into_vec();
-    let mut falling_on = on.into_vec();
-    falling_off.reverse();
-    falling_on.reverse();
+    let mut falling_plain = plain.into_vec();
+    let mut falling_modes = modes.into_vec();
+    falling_plain.reverse();
+    falling_modes.reverse();
     let mut rows = List::new(alloc);
-    while let Some(row) = least(&mut falling_off, &mut falling_on) {
+    while let Some(row) = least(&mut falling_plain, &mut falling_modes) {
         rows.push(row)?;
     }
     Ok(rows)
 }
 
 /// Takes the row of the least number out of two tables in falling order.
-fn least(off: &mut Vec<Row>, on: &mut Vec<Row>) -> Option<Row>
-    requires { AreFalling off.old.items on.old.items }
-    ensures taken { IsLeastTaken result off.old.items on.old.items off.new.items on.new.items }
+fn least(plain: &mut Vec<Row>, modes: &mut Vec<Row>) -> Option<Row>
+    requires { AreFalling plain.old.items modes.old.items }
+    ensures taken { IsLeastTaken result plain.old.items modes.old.items
+        plain.new.items modes.new.items }
     ensures fewer { IsSome result →
-        vec_len off.new + vec_len on.new < vec_len off.old + vec_len on.old }
+        vec_len plain.new + vec_len modes.new < vec_len plain.old + vec_len modes.old }
 {
-    if is_first(off, on) {
-        off.pop()
+    if is_first(plain, modes) {
+        plain.pop()
     } else {
-        on.pop()
+        modes.pop()
     }
 }
 
 /// Whether the last row of the first table comes before that of the second, if there is one.
-fn is_first(off: &[Row], on: &[Row]) -> bool
-    ensures { result ≡ is_first (reverse off.now) (reverse on.now) }
+fn is_first(plain: &[Row], modes: &[Row]) -> bool
+    ensures { result ≡ is_first (reverse plain.now) (reverse modes.now) }
 {
-    let Some((a, _)) = off.split_last() else {
+    let Some((a, _)) = plain.split_last() else {
         return false;
     };
-    let Some((b, _)) = on.split_last() else {
+    let Some((b, _)) = modes.split_last() else {
         return true;
     };
     a.no < b.no

@@ -7,9 +7,9 @@ ghost use Rattle.fs_parcel.specs.Rows.{in_one_list};
 use crate::error::MoveError;
 use fs_ident::{FileId, Memory, PathNo, Twin, TxnNo};
 use fs_map::FileMap;
-use fs_moderows::Live as LiveOn;
+use fs_moderows::Live as LiveModes;
 use fs_record::Records;
-use fs_rows::Live as LiveOff;
+use fs_rows::Live as LivePlain;
 use std::alloc::Global;
 
 /// Why what `me` has below the prefix does not go to the server `to`, the first of the reasons; none where it may.
@@ -17,8 +17,8 @@ use std::alloc::Global;
 pub fn refusal(
     alloc: Global,
     records: &Records,
-    rows: &LiveOff<'_>,
-    modes: &LiveOn<'_>,
+    rows: &LivePlain<'_>,
+    modes: &LiveModes<'_>,
     map: &FileMap,
     me: u8,
     prefix: &FileId,
@@ -26,7 +26,8 @@ pub fn refusal(
     through: Option<PathNo>,
 ) -> Result<Option<MoveError>, Memory>
     ensures { IfOk result (λ why. why ≡
-        move_refusal records.now (in_one_list rows.now modes.now) map.now me prefix.now to through) }
+        move_refusal records.now (in_one_list rows.now modes.now) map.now me prefix.now to
+        through) }
 {
     let (listed, server) = map.owner(prefix);
     if server != me {
@@ -57,8 +58,8 @@ fn busy(kept: Option<TxnNo>, through: Option<PathNo>) -> Option<MoveError>
 
 /// The least transaction that keeps a row, of either table, on a file that begins with the prefix and is `me`'s.
 fn least_lock(
-    rows: &LiveOff<'_>,
-    modes: &LiveOn<'_>,
+    rows: &LivePlain<'_>,
+    modes: &LiveModes<'_>,
     map: &FileMap,
     me: u8,
     prefix: &FileId,

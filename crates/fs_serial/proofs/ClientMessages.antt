@@ -3,7 +3,7 @@ pub mod Settling
 pub mod Has
 pub mod Reordered
 pub mod Carried
-pub mod Seats
+pub mod SessionStates
 pub mod Heard
 pub mod HearsGranted
 pub mod HearsRenewed

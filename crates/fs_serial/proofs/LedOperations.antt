@@ -1,7 +1,7 @@
 -- An operation that a server leads commits.
 pub mod MovedItems
 pub mod MoveScripts
-pub mod LeadSeat
+pub mod LeadSession
 pub mod LedKept
 pub mod Committed
 pub mod Cycles

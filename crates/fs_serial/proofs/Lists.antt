@@ -1,5 +1,5 @@
 -- Lists, counts and numbers of servers, for all other folders.
-pub mod Facts
+pub mod Journals
 pub mod Counted
 pub mod Counting
 pub mod Times

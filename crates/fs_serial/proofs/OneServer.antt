@@ -1,5 +1,5 @@
 -- One server that has all, and the step of each server as its step.
-pub mod Going
+pub mod LeaseChanges
 pub mod ServerSame
 pub mod ServerEvents
 pub mod ClientSteps

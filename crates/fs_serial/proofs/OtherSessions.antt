@@ -1,7 +1,7 @@
 -- What a step for one session owes all others.
 pub mod Relied
 pub mod Together
-pub mod Again
+pub mod ClientChanges
 pub mod Older
 pub mod Rising
 pub mod Retimed

@@ -4,8 +4,8 @@ pub mod HeldRows
 pub mod HeldRecords
 pub mod AtHome
 pub mod AllHere
-pub mod Rest
-pub mod RestOf
+pub mod OtherPlaces
+pub mod ClusterPlaces
 pub mod PutRows
 pub mod PutRecords
 pub mod Joining

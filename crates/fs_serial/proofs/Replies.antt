@@ -6,7 +6,7 @@ pub mod Reply
 pub mod ReplyNext
 pub mod ReplyPins
 pub mod ReplyAll
-pub mod ReplySeat
+pub mod ReplySession
 pub mod Read
 pub mod MoveReads
 pub mod PlainAsks

@@ -3,7 +3,7 @@ pub mod PairLoops
 pub mod KeptPairs
 pub mod Releases
 pub mod LaterSteps
-pub mod LetGo
+pub mod HandlesWithoutRows
 pub mod Reaping
 pub mod ServerTurn
 pub mod Lapse

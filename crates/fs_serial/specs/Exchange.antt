@@ -140,7 +140,8 @@ pub record ReturnFits (given : ℕ → ℕ) (rows : List Row) (by : Session) (le
   pub own : (r : Row) → In r rows → r.no ≡ pair.1 → r.session ≡ by
 
 abbrev pub ReturnsFit : (ℕ → ℕ) → List Row → Session → List ViewLease → List Lease → Type 0
-ReturnsFit given rows by kept leases = (k : ViewLease) → In k kept → is_leaving k.standing ≡ true → ReturnFits given rows by leases (pair_of k)
+ReturnsFit given rows by kept leases =
+    (k : ViewLease) → In k kept → is_leaving k.standing ≡ true → ReturnFits given rows by leases (pair_of k)
 
 -- what is told with a number is its file
 abbrev pub pairs_in : ClientMsg → List (List ℕ × LeaseNo)

@@ -29,7 +29,8 @@ ends_of l = record { client = l.client; up = map (λ (m : ℕ × ClientMsg). m.1
 
 -- the server has all rows and records
 abbrev pub with_all : Server → Cluster → Server
-with_all s c = record s { rows = rows_of_all c.servers (parcels_of c.in_flight); records = records_of_all c.servers (parcels_of c.in_flight) }
+with_all s c =
+    record s { rows = rows_of_all c.servers (parcels_of c.in_flight); records = records_of_all c.servers (parcels_of c.in_flight) }
 
 abbrev pub world_of : Server → Cluster → World
 world_of s c = record {

@@ -47,11 +47,11 @@ use Rattle.fs_server.proofs.Kept.{with_others}
 -- ## A move
 
 -- what is packed from what is read of the server
-pub packed_here : (prefix : List ℕ) (records : RecordMap) (off on rows : List Row) (map : Owners) (me : ℕ) (p : Parcel) (s : Server) → records ≡ s.records → in_one_list off on ≡ rows → rows ≡ s.rows → map ≡ s.map → me ≡ s.me → p ≡ parcel_of records (in_one_list off on) map me prefix
+pub packed_here : (prefix : List ℕ) (records : RecordMap) (plain modes rows : List Row) (map : Owners) (me : ℕ) (p : Parcel) (s : Server) → records ≡ s.records → in_one_list plain modes ≡ rows → rows ≡ s.rows → map ≡ s.map → me ≡ s.me → p ≡ parcel_of records (in_one_list plain modes) map me prefix
     → p ≡ parcel_of s.records s.rows s.map s.me prefix
-packed_here prefix records off on rows map me p s a b d e f g =
+packed_here prefix records plain modes rows map me p s a b d e f g =
     g
-    ∙ ap (λ x. parcel_of x (in_one_list off on) map me prefix) a
+    ∙ ap (λ x. parcel_of x (in_one_list plain modes) map me prefix) a
     ∙ ap (λ x. parcel_of s.records x map me prefix) (b ∙ d)
     ∙ ap (λ x. parcel_of s.records s.rows x me prefix) e
     ∙ ap (λ x. parcel_of s.records s.rows s.map x prefix) f

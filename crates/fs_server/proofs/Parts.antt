@@ -172,9 +172,9 @@ reap_modes opens rows s f =
 -- ## The row of a number
 
 -- the row that is found off modes is that of all rows
-pub named_off : (number : LeaseNo) (rows off : List Row) (r : Row) → is_ordered rows ≡ true → rows_off_modes rows ≡ off → Some r ≡ find (has_no number) off → Some r ≡ find (has_no number) rows
-named_off number rows off r o e h =
-    let one : In r off × (has_no number r ≡ true) = found (has_no number) off r (sym h) in
+pub named_plain : (number : LeaseNo) (rows plain : List Row) (r : Row) → is_ordered rows ≡ true → rows_off_modes rows ≡ plain → Some r ≡ find (has_no number) plain → Some r ≡ find (has_no number) rows
+named_plain number rows plain r o e h =
+    let one : In r plain × (has_no number r ≡ true) = found (has_no number) plain r (sym h) in
     let here : In r rows = In-filter is_off_modes r rows (subst (In r) (sym e) one.0) in
     elim (find (has_no number) rows) as (λ f. find (has_no number) rows ≡ f → Some r ≡ f) [
       | None ↦ λ g. let wrong : true ≡ false = sym one.1 ∙ none_pass (has_no number) rows g r here in absurd (cc)
@@ -184,10 +184,10 @@ named_off number rows off r o e h =
     ] refl
 
 -- where none is found off modes, it is that on modes
-pub named_on : (number : LeaseNo) (rows off : List Row) → rows_off_modes rows ≡ off → None ≡ find (has_no number) off → find (has_no number) (rows_on_modes rows) ≡ find (has_no number) rows
-named_on number rows off e h = sym (part rows (λ x i t. unfound x (In_filtered is_off_modes rows x i t))) where
+pub named_modes : (number : LeaseNo) (rows plain : List Row) → rows_off_modes rows ≡ plain → None ≡ find (has_no number) plain → find (has_no number) (rows_on_modes rows) ≡ find (has_no number) rows
+named_modes number rows plain e h = sym (part rows (λ x i t. unfound x (In_filtered is_off_modes rows x i t))) where
   unfound : (x : Row) → In x (rows_off_modes rows) → has_no number x ≡ false
-  unfound x i = none_pass (has_no number) off (sym h) x (subst (In x) e i)
+  unfound x i = none_pass (has_no number) plain (sym h) x (subst (In x) e i)
 
   part : (xs : List Row) → ((x : Row) → In x xs → is_off_modes x ≡ true → has_no number x ≡ false) → find (has_no number) xs ≡ find (has_no number) (rows_on_modes xs)
   part [] k = refl

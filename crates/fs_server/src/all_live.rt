@@ -16,17 +16,17 @@ ghost use Rattle.fs_server.specs.Rows.{AreRows, in_one_list};
 
 use fs_field::{Asked, Field, LeaseKind, Row};
 use fs_ident::{FileId, LeaseNo, List, Memory, Session};
-use fs_moderows::{Live as LiveOn, ModeRows};
+use fs_moderows::{Live as LiveModes, ModeRows};
 use fs_modes::{Mode, Modes};
-use fs_rows::{Live as LiveOff, Rows};
+use fs_rows::{Live as LivePlain, Rows};
 use std::alloc::Global;
 use std::marker::Model;
 
 /// The rows of a server that are not over at a reading. Nothing is copied.
 #[derive(Drop)]
 pub(crate) struct AllLive<'a> {
-    off: LiveOff<'a>,
-    on: LiveOn<'a>,
+    plain: LivePlain<'a>,
+    modes: LiveModes<'a>,
 }
 
 impl<'a> Model for AllLive<'a> {
@@ -38,31 +38,31 @@ impl<'a> Model for AllLive<'a> {
 
     ghost Value = { List Row };
 
-    ghost view = { λ l. in_one_list l.off l.on };
+    ghost view = { λ l. in_one_list l.plain l.modes };
 
-    ghost invariant = { λ l. IsTable l.off × (IsModeTable l.on × AreRows (in_one_list l.off l.on)) };
+    ghost invariant = { λ l. IsTable l.plain × (IsModeTable l.modes × AreRows (in_one_list l.plain l.modes)) };
 }
 
 impl<'a> AllLive<'a> {
     /// Those of both tables that are not over at the reading `now`.
-    pub(crate) fn at(off: &'a Rows, on: &'a ModeRows, now: u64, skew: u64) -> AllLive<'a>
-        requires { AreRows (in_one_list off.now on.now) }
-        ensures { result ≡ filter (is_live now skew) (in_one_list off.now on.now) }
+    pub(crate) fn at(plain: &'a Rows, modes: &'a ModeRows, now: u64, skew: u64) -> AllLive<'a>
+        requires { AreRows (in_one_list plain.now modes.now) }
+        ensures { result ≡ filter (is_live now skew) (in_one_list plain.now modes.now) }
     {
         AllLive {
-            off: off.live(now, skew),
-            on: on.live(now, skew),
+            plain: plain.live(now, skew),
+            modes: modes.live(now, skew),
         }
     }
 
     /// Those of each table.
-    pub(crate) fn tables(&self) -> (&LiveOff<'a>, &LiveOn<'a>)
+    pub(crate) fn tables(&self) -> (&LivePlain<'a>, &LiveModes<'a>)
         ensures rows { in_one_list result.0.now result.1.now ≡ self.now }
-        ensures off { IsTable result.0.now }
-        ensures on { IsModeTable result.1.now }
+        ensures plain { IsTable result.0.now }
+        ensures modes { IsModeTable result.1.now }
         ensures valid { AreRows self.now }
     {
-        (&self.off, &self.on)
+        (&self.plain, &self.modes)
     }
 
     /// What a question for such a lease would be answered, on a field that is no part of what sessions tell of modes.
@@ -70,7 +70,7 @@ impl<'a> AllLive<'a> {
         requires { tells_no_mode field.now ≡ true }
         ensures { result ≡ answer self.now session field.now kind }
     {
-        self.off.answer(session, field, kind)
+        self.plain.answer(session, field, kind)
     }
 
     /// What a question of the session would be answered that would change what it tells of the mode on the file; the
@@ -87,7 +87,7 @@ impl<'a> AllLive<'a> {
         requires { field.now ≡ SelfW file.now m }
         ensures { result ≡ answer_self selves.now self.now session file.now m }
     {
-        self.on.answer_self(selves, session, field, file, m)
+        self.modes.answer_self(selves, session, field, file, m)
     }
 
     /// What a question of the session would be answered that would know whether others have the mode on the file; the
@@ -103,7 +103,7 @@ impl<'a> AllLive<'a> {
         requires { field.now ≡ Other file.now m }
         ensures { result ≡ answer_other selves.now self.now session file.now m }
     {
-        self.on.answer_other(selves, session, field, file, m)
+        self.modes.answer_other(selves, session, field, file, m)
     }
 
     /// The least row that keeps the session from losing its handles on the file. `selves` is as for `answer_self`.
@@ -115,7 +115,7 @@ impl<'a> AllLive<'a> {
     ) -> Option<LeaseNo>
         ensures { result ≡ reap_blocker selves.now self.now session file.now }
     {
-        self.on.may_reap(selves, session, file)
+        self.modes.may_reap(selves, session, file)
     }
 
     /// Whether there is a row of the session on the field, which is no part of what sessions tell of modes.
@@ -124,14 +124,14 @@ impl<'a> AllLive<'a> {
         ensures { result ≡ list_any (λ (r : TheRow).
             same_field r.field field.now && (r.session.0 == session.0)) self.now }
     {
-        self.off.has_on(field, session)
+        self.plain.has_on(field, session)
     }
 
     /// Whether there is the row of this number.
     pub(crate) fn has(&self, no: LeaseNo) -> bool
         ensures { result ≡ list_any (has_no no) self.now }
     {
-        self.off.has(no) || self.on.has(no)
+        self.plain.has(no) || self.modes.has(no)
     }
 
     /// Whether there is the row of this lease of the session.
@@ -144,16 +144,16 @@ impl<'a> AllLive<'a> {
     ) -> bool
         ensures { result ≡ list_any (is_lease no session field.now kind) self.now }
     {
-        self.off.holds(no, session, field, kind) || self.on.holds(no, session, field, kind)
+        self.plain.holds(no, session, field, kind) || self.modes.holds(no, session, field, kind)
     }
 
     /// The row of this number.
     pub(crate) fn row(&self, no: LeaseNo) -> Option<&Row>
         ensures { option_copied result ≡ find (has_no no) self.now }
     {
-        match self.off.row(no) {
+        match self.plain.row(no) {
             Some(row) => Some(row),
-            None => self.on.row(no),
+            None => self.modes.row(no),
         }
     }
 
@@ -162,8 +162,8 @@ impl<'a> AllLive<'a> {
         ensures { IfOk result (λ told. (k : ℕ) →
             is_borne told k ≡ is_borne (borne_numbers dir.now self.now) k) }
     {
-        let mut told = self.off.borne(alloc, dir)?;
-        let others = self.on.borne(alloc, dir)?;
+        let mut told = self.plain.borne(alloc, dir)?;
+        let others = self.modes.borne(alloc, dir)?;
         told.items_mut().extend_from_slice(others.as_slice())?;
         Ok(told)
     }
@@ -177,9 +177,9 @@ impl<'a> AllLive<'a> {
         ensures { IfOk result (λ told. told ≡ unlocked_on field.now self.now) }
     {
         if field.tells_no_mode() {
-            self.off.unlocked_on(alloc, field)
+            self.plain.unlocked_on(alloc, field)
         } else {
-            self.on.unlocked_on(alloc, field)
+            self.modes.unlocked_on(alloc, field)
         }
     }
 }

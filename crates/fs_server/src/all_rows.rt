@@ -24,8 +24,8 @@ use std::marker::Model;
 /// another.
 #[derive(Drop)]
 pub(crate) struct AllRows {
-    off: Rows,
-    on: ModeRows,
+    plain: Rows,
+    modes: ModeRows,
 }
 
 impl Model for AllRows {
@@ -37,9 +37,9 @@ impl Model for AllRows {
 
     ghost Value = { List Row };
 
-    ghost view = { λ r. in_one_list r.off r.on };
+    ghost view = { λ r. in_one_list r.plain r.modes };
 
-    ghost invariant = { λ r. IsTable r.off × (IsModeTable r.on × AreRows (in_one_list r.off r.on)) };
+    ghost invariant = { λ r. IsTable r.plain × (IsModeTable r.modes × AreRows (in_one_list r.plain r.modes)) };
 }
 
 impl AllRows {
@@ -48,8 +48,8 @@ impl AllRows {
         ensures { result ≡ [] }
     {
         AllRows {
-            off: Rows::new(alloc),
-            on: ModeRows::new(alloc),
+            plain: Rows::new(alloc),
+            modes: ModeRows::new(alloc),
         }
     }
 
@@ -59,15 +59,15 @@ impl AllRows {
         ensures rows { result ≡ filter (is_live now skew) self.now }
         ensures valid { AreRows result }
     {
-        AllLive::at(&self.off, &self.on, now, skew)
+        AllLive::at(&self.plain, &self.modes, now, skew)
     }
 
     /// Drops the rows whose end and the skew are over at the reading `now`, but for those that a transaction keeps.
     pub(crate) fn lapse(&mut self, now: u64, skew: u64)
         ensures { self.new ≡ filter (is_live now skew) self.old }
     {
-        self.off.lapse(now, skew);
-        self.on.lapse(now, skew);
+        self.plain.lapse(now, skew);
+        self.modes.lapse(now, skew);
     }
 
     /// Drops the rows that are over at the reading `now`, as `lapse` does, and puts in these, in order. `Memory`
@@ -84,48 +84,47 @@ impl AllRows {
         ensures err { OnErr result (self.new ≡ self.old) }
     {
         let parts = Parts::of(alloc, rows)?;
-        self.on
-            .grant_all(alloc, now, skew, parts.on, &mut self.off, parts.off)
+        self.modes.grant_all(alloc, now, skew, parts.modes, &mut self.plain, parts.plain)
     }
 
     /// Lets the row of this number, where there is one, end no sooner than `until`; its end is never lowered.
     pub(crate) fn renew(&mut self, no: LeaseNo, until: u64)
         ensures { self.new ≡ map (renewed_row no until) self.old }
     {
-        let _ = self.off.renew(no, until);
-        let _ = self.on.renew(no, until);
+        let _ = self.plain.renew(no, until);
+        let _ = self.modes.renew(no, until);
     }
 
     /// Lets the transaction keep the row of this number, where there is one that none keeps.
     pub(crate) fn lock(&mut self, no: LeaseNo, txn: TxnNo)
         ensures { self.new ≡ map (locked_row no txn) self.old }
     {
-        self.off.lock(no, txn);
-        self.on.lock(no, txn);
+        self.plain.lock(no, txn);
+        self.modes.lock(no, txn);
     }
 
     /// Lets the transaction keep no row any more.
     pub(crate) fn unlock(&mut self, txn: TxnNo)
         ensures { self.new ≡ map (unlocked_row txn) self.old }
     {
-        self.off.unlock(txn);
-        self.on.unlock(txn);
+        self.plain.unlock(txn);
+        self.modes.unlock(txn);
     }
 
     /// Drops the row of this number, where there is one.
     pub(crate) fn release(&mut self, no: LeaseNo)
         ensures { self.new ≡ filter (λ r. not (has_no no r)) self.old }
     {
-        self.off.release(no);
-        self.on.release(no);
+        self.plain.release(no);
+        self.modes.release(no);
     }
 
     /// Drops the rows on files that the piece gives.
     pub(crate) fn leave(&mut self, piece: &MapPiece)
         ensures { self.new ≡ rows_left piece.now.prefix piece.now.given self.old }
     {
-        self.off.leave(piece);
-        self.on.leave(piece);
+        self.plain.leave(piece);
+        self.modes.leave(piece);
     }
 
     /// Drops the rows that are over at the reading `now`, as `lapse` does, and puts all of the parcel, which fits among
@@ -153,8 +152,8 @@ impl AllRows {
         install_at(
             alloc,
             records,
-            &mut self.off,
-            &mut self.on,
+            &mut self.plain,
+            &mut self.modes,
             map,
             me,
             now,
@@ -167,8 +166,8 @@ impl AllRows {
 impl Twin for AllRows {
     fn copy(&self, alloc: Global) -> Result<AllRows, Memory> {
         Ok(AllRows {
-            off: self.off.copy(alloc)?,
-            on: self.on.copy(alloc)?,
+            plain: self.plain.copy(alloc)?,
+            modes: self.modes.copy(alloc)?,
         })
     }
 

@@ -47,12 +47,12 @@ fn refused(
     ensures { IfOk result (λ why. why ≡
         move_refusal at.now.records at.now.rows at.now.map at.now.me prefix.now to None) }
 {
-    let (off, on) = at.rows().tables();
+    let (plain, modes) = at.rows().tables();
     refusal(
         alloc,
         at.records(),
-        off,
-        on,
+        plain,
+        modes,
         at.map(),
         at.me(),
         prefix,
@@ -88,8 +88,8 @@ fn hands_over(alloc: Global, at: &AtReading<'_>, prefix: &FileId, to: u8) -> Res
     ensures step { IfOk result (λ d. stepped_by d at.now ≡ hands_over prefix.now to at.now) }
     ensures can { IfOk result (λ d. CanDecide d at.now) }
 {
-    let (off, on) = at.rows().tables();
-    let parcel = packed(alloc, at.records(), off, on, at.map(), at.me(), prefix)?;
+    let (plain, modes) = at.rows().tables();
+    let parcel = packed(alloc, at.records(), plain, modes, at.map(), at.me(), prefix)?;
     let piece = parcel.piece.copy(alloc)?;
     let moved = parcel.records.copy(alloc)?;
     let note = ServerNote::Moves {
@@ -136,8 +136,8 @@ pub(crate) fn installs(alloc: Global, at: &AtReading<'_>, p: &Parcel) -> Result<
 fn fits_here(alloc: Global, at: &AtReading<'_>, p: &Parcel) -> Result<bool, Memory>
     ensures { IfOk result (λ fit. fit ≡ fits_here p.now at.now) }
 {
-    let (off, on) = at.rows().tables();
-    let fit = fits_at(alloc, at.records(), off, on, at.map(), at.me(), p)?;
+    let (plain, modes) = at.rows().tables();
+    let fit = fits_at(alloc, at.records(), plain, modes, at.map(), at.me(), p)?;
     Ok(fit && were_given(at.me(), at.given(), p.rows.as_slice()))
 }
 

@@ -18,7 +18,7 @@ use Rattle.fs_world.specs.Served.{step_of}
 use Rattle.fs_world.specs.World.{AllMayHappen, Run, first_run, first_world, more, run_of, run_on, step}
 use Rattle.fs_world.specs.declared.form.Form.{Form}
 use Rattle.fs_world.specs.declared.form.Form.TheVariants.{Direct, Served}
-use Rattle.fs_world.specs.declared.served.Served.{Served as TheServed}
+use Rattle.fs_world.specs.declared.servers.world.Served.{Served as TheServed}
 use Rattle.fs_world.proofs.FirstServed.{first_holds}
 use Rattle.fs_world.proofs.SerialLaws.{EventLaws, all_asks, all_clock, all_exchanges, all_owned}
 use Rattle.fs_world.proofs.ServedHolds.{cluster_of}

@@ -28,9 +28,9 @@ use Rattle.fs_world.specs.Calls.{server_hears_one as server_hears_one_at}
 use Rattle.fs_world.specs.Linked.{FitsDown}
 use Rattle.fs_world.specs.Packets.{Packets}
 use Rattle.fs_world.specs.Planned.{IsAnswered, run_of}
-use Rattle.fs_world.specs.Served.{Seats, ServerStepped, core_step, flying_without_each, seats_without_each, server_ran, with_downs}
-use Rattle.fs_world.proofs.LinkedSeats.{turned_apart}
-use Rattle.fs_world.proofs.ServerNext.{seats_cross}
+use Rattle.fs_world.specs.Served.{SessionStates, ServerStepped, core_step, flying_without_each, sessions_without_each, server_ran, with_downs}
+use Rattle.fs_world.proofs.LinkedStates.{turned_apart}
+use Rattle.fs_world.proofs.ServerNext.{sessions_cross}
 
 -- ## What was joined is taken off
 
@@ -70,13 +70,13 @@ flying_apart {Y} k (Server j) (y ∷ ys) xs in_flight apart =
     ∙ flying_apart k (Server j) ys xs (without_first (is_between j k) in_flight) apart
 
 -- what was joined is taken off behind the steps as well as before them
-pub gone_after : (now k : ℕ) (from : Peer) (replied : Option Peer) (h : Heard) (x y : ServerStepped) (seats : Seats) (in_flight : List InFlight) → same_peer from (Server k) ≡ false → y ≡ server_heard now k from replied h x
-    → seats ≡ seats_without_each k from h.joined y.seats → in_flight ≡ flying_without_each k from h.joined y.in_flight → record y { seats = seats; in_flight = in_flight } ≡ server_hears now k from replied h x
-gone_after now k from replied h x y seats in_flight apart is gone left =
+pub gone_after : (now k : ℕ) (from : Peer) (replied : Option Peer) (h : Heard) (x y : ServerStepped) (sessions : SessionStates) (in_flight : List InFlight) → same_peer from (Server k) ≡ false → y ≡ server_heard now k from replied h x
+    → sessions ≡ sessions_without_each k from h.joined y.sessions → in_flight ≡ flying_without_each k from h.joined y.in_flight → record y { sessions = sessions; in_flight = in_flight } ≡ server_hears now k from replied h x
+gone_after now k from replied h x y sessions in_flight apart is gone left =
     let run : ServerRun = server_takes_all now from replied (record { links = x.post; heard = h }) x.server in
-    let seats_are : seats ≡ with_downs k run.send (seats_without_each k from h.joined x.seats) = gone ∙ ap (λ (z : ServerStepped). seats_without_each k from h.joined z.seats) is ∙ seats_cross k from h.joined run.send x.seats in
+    let sessions_are : sessions ≡ with_downs k run.send (sessions_without_each k from h.joined x.sessions) = gone ∙ ap (λ (z : ServerStepped). sessions_without_each k from h.joined z.sessions) is ∙ sessions_cross k from h.joined run.send x.sessions in
     let flying_is : in_flight ≡ flying_without_each k from h.joined x.in_flight ++ in_flight_from k run.send = left ∙ ap (λ (z : ServerStepped). flying_without_each k from h.joined z.in_flight) is ∙ flying_apart k from h.joined run.send x.in_flight apart in
-    λ i. record (is i) { seats = seats_are i; in_flight = flying_is i }
+    λ i. record (is i) { sessions = sessions_are i; in_flight = flying_is i }
 
 -- ## One message at most
 
@@ -96,7 +96,7 @@ heard_answered now from (j ∷ []) x e few is fits none =
 heard_answered now from (j ∷ i ∷ js) x e few is fits none = absurd (omega arith)
 
 pub answered_after : (r : Result Outcome CoreError) (k : ℕ) (from : Peer) (to : Option Peer) (now : ℕ) (joined : List Joined) (x : ServerStepped) (e : ServerEvent) (left : Outcome → ServerStepped) → length joined ≤ 1 → Some e ≡ event_heard from joined
-    → OnOk r (FitsDown (step x.server now e).out.send) → ((o : Outcome) → (left o).spent ≡ None) → IfOk r (λ told. left told ≡ core_step k false to now e x) → OnOk r (IsAnswered now from joined x)
+    → OnOk r (FitsDown (step x.server now e).out.send) → ((o : Outcome) → (left o).spent ≡ None) → IfOk r (λ outcome. left outcome ≡ core_step k false to now e x) → OnOk r (IsAnswered now from joined x)
 answered_after (Ok o) k from to now joined x e left few is fits none done = heard_answered now from joined x e few is fits (sym (ap (λ (y : ServerStepped). y.spent) done) ∙ none o)
 answered_after (Err o) k from to now joined x e left few is fits none done = tt
 
@@ -108,27 +108,27 @@ heard_as_one now k from replied h x few = ap (λ (y : ServerRun). server_ran k y
 pub heard_each : (now k : ℕ) (from : Peer) (replied : Option Peer) (h : Heard) (x : ServerStepped) → 1 < length h.joined → server_heard now k from replied h x ≡ server_ran k (server_replies replied (run_of now from h.joined x)) x
 heard_each now k from replied h x several = ap (λ (y : ServerRun). server_ran k y x) (server_of_several now from replied x.post h x.server several)
 
-run_left : (k : ℕ) (y : ServerRun) (x : ServerStepped) (told : Outcome) (s : Core) (post : Links) (seats : Seats) (in_flight : List InFlight) (journal : List Item) (packets : Packets) → IsServerRun y k x told s post seats in_flight journal packets
-    → server_left told s post seats in_flight journal packets ≡ server_ran k y x
-run_left k y x told s post seats in_flight journal packets r =
-    λ i. made (r.server_then i) (r.post_then i) (r.seats_then i) (r.flying_then i) (r.journal_then i) (r.packets_then i) (r.told_then i) (sym r.unspent i)
+run_left : (k : ℕ) (y : ServerRun) (x : ServerStepped) (outcome : Outcome) (s : Core) (post : Links) (sessions : SessionStates) (in_flight : List InFlight) (journal : List Item) (packets : Packets) → IsServerRun y k x outcome s post sessions in_flight journal packets
+    → server_left outcome s post sessions in_flight journal packets ≡ server_ran k y x
+run_left k y x outcome s post sessions in_flight journal packets r =
+    λ i. made (r.server_then i) (r.post_then i) (r.sessions_then i) (r.flying_then i) (r.journal_then i) (r.packets_then i) (r.outcome_then i) (sym r.unspent i)
   where
-    made : Core → Links → Seats → List InFlight → List Item → Packets → Outcome → Option Counter → ServerStepped
-    made s post seats in_flight journal packets told spent = record { server = s; post = post; seats = seats; in_flight = in_flight; journal = journal; packets = packets; outcome = told; spent = spent }
+    made : Core → Links → SessionStates → List InFlight → List Item → Packets → Outcome → Option Counter → ServerStepped
+    made s post sessions in_flight journal packets outcome spent = record { server = s; post = post; sessions = sessions; in_flight = in_flight; journal = journal; packets = packets; outcome = outcome; spent = spent }
 
-pub several_left : (now k : ℕ) (from : Peer) (replied : Option Peer) (h : Heard) (x : ServerStepped) (told : Outcome) (s : Core) (post : Links) (seats : Seats) (in_flight : List InFlight) (journal : List Item) (packets : Packets) → 1 < length h.joined
-    → IsServerRun (server_replies replied (run_of now from h.joined x)) k x told s post seats in_flight journal packets → server_left told s post seats in_flight journal packets ≡ server_heard now k from replied h x
-several_left now k from replied h x told s post seats in_flight journal packets several r =
-    run_left k (server_replies replied (run_of now from h.joined x)) x told s post seats in_flight journal packets r ∙ sym (heard_each now k from replied h x several)
+pub several_left : (now k : ℕ) (from : Peer) (replied : Option Peer) (h : Heard) (x : ServerStepped) (outcome : Outcome) (s : Core) (post : Links) (sessions : SessionStates) (in_flight : List InFlight) (journal : List Item) (packets : Packets) → 1 < length h.joined
+    → IsServerRun (server_replies replied (run_of now from h.joined x)) k x outcome s post sessions in_flight journal packets → server_left outcome s post sessions in_flight journal packets ≡ server_heard now k from replied h x
+several_left now k from replied h x outcome s post sessions in_flight journal packets several r =
+    run_left k (server_replies replied (run_of now from h.joined x)) x outcome s post sessions in_flight journal packets r ∙ sym (heard_each now k from replied h x several)
 
 -- the run of a copy is that of the server itself
-pub run_alike : (now k : ℕ) (from : Peer) (replied : Option Peer) (joined heard : List Joined) (copy : Core) (x : ServerStepped) (told : Outcome) (s : Core) (post : Links) (seats : Seats) (in_flight : List InFlight) (journal : List Item) (packets : Packets)
+pub run_alike : (now k : ℕ) (from : Peer) (replied : Option Peer) (joined heard : List Joined) (copy : Core) (x : ServerStepped) (outcome : Outcome) (s : Core) (post : Links) (sessions : SessionStates) (in_flight : List InFlight) (journal : List Item) (packets : Packets)
     → joined ≡ heard → copy ≡ x.server
-    → IsServerRun (server_replies replied (run_of now from joined (record x { server = copy }))) k (record x { server = copy }) told s post seats in_flight journal packets
-    → IsServerRun (server_replies replied (run_of now from heard x)) k x told s post seats in_flight journal packets
-run_alike now k from replied joined heard copy x told s post seats in_flight journal packets same twin r =
-    subst (λ (c : Core). IsServerRun (server_replies replied (run_of now from heard (record x { server = c }))) k (record x { server = c }) told s post seats in_flight journal packets) twin
-    (subst (λ (js : List Joined). IsServerRun (server_replies replied (run_of now from js (record x { server = copy }))) k (record x { server = copy }) told s post seats in_flight journal packets) same r)
+    → IsServerRun (server_replies replied (run_of now from joined (record x { server = copy }))) k (record x { server = copy }) outcome s post sessions in_flight journal packets
+    → IsServerRun (server_replies replied (run_of now from heard x)) k x outcome s post sessions in_flight journal packets
+run_alike now k from replied joined heard copy x outcome s post sessions in_flight journal packets same twin r =
+    subst (λ (c : Core). IsServerRun (server_replies replied (run_of now from heard (record x { server = c }))) k (record x { server = c }) outcome s post sessions in_flight journal packets) twin
+    (subst (λ (js : List Joined). IsServerRun (server_replies replied (run_of now from js (record x { server = copy }))) k (record x { server = copy }) outcome s post sessions in_flight journal packets) same r)
 
 pub fits_alike : (now : ℕ) (from : Peer) (joined heard : List Joined) (copy : Core) (x : ServerStepped) → joined ≡ heard → copy ≡ x.server → FitsDown (run_of now from joined (record x { server = copy })).send → FitsDown (run_of now from heard x).send
 fits_alike now from joined heard copy x same twin f =

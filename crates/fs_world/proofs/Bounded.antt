@@ -14,7 +14,7 @@ use Rattle.fs_schedule.specs.declared.event.Head.TheVariants as head
 use Rattle.fs_schedule.specs.declared.event.Schedule.{Schedule}
 use Rattle.fs_schedule.specs.declared.event.What.{What}
 use Rattle.fs_schedule.specs.declared.event.What.TheVariants.{Join, Do, Tell, Turn, Recall, Move}
-use Rattle.fs_world.specs.declared.direct.Direct.{Direct}
+use Rattle.fs_world.specs.declared.direct.world.Direct.{Direct}
 use Rattle.fs_world.specs.Direct.{Counts, do_at, first_direct, is_last, is_spent, join_at, step_of}
 use Rattle.fs_world.specs.World.{Stop, first_world, stop_after, stop_at, stop_in, stop_of}
 use Rattle.fs_world.specs.declared.form.Form.TheVariants as form

@@ -6,7 +6,7 @@ use Rattle.fs_world.specs.Carried.{Carries, GivesFirst, AreFirstOf, LinksCarry, 
 use Rattle.fs_world.specs.Linked.{IsLinked, IsWhole}
 use Rattle.fs_world.specs.declared.form.Form.{Form}
 use Rattle.fs_world.specs.declared.form.Form.TheVariants.{Direct, Served}
-use Rattle.fs_world.specs.declared.served.Served.{Served as TheServed}
+use Rattle.fs_world.specs.declared.servers.world.Served.{Served as TheServed}
 use Rattle.fs_world.proofs.LinkedChange.{first_of, other_way}
 use Rattle.fs_world.proofs.Linked.{packet_of, sent_read}
 

@@ -14,12 +14,12 @@ use Rattle.fs_world.specs.Carried.{AllCarry}
 use Rattle.fs_world.specs.Direct.{do_at, first_direct, join_at, step_of}
 use Rattle.fs_world.specs.Over.{AllCaused, Said, all_said, said_at, said_from}
 use Rattle.fs_world.specs.Served as served
-use Rattle.fs_world.specs.Served.{Seats, first_served}
+use Rattle.fs_world.specs.Served.{SessionStates, first_served}
 use Rattle.fs_world.specs.World.{first_world, step}
-use Rattle.fs_world.specs.declared.direct.Direct.{Direct as TheDirect}
+use Rattle.fs_world.specs.declared.direct.world.Direct.{Direct as TheDirect}
 use Rattle.fs_world.specs.declared.form.Form.TheVariants.{Direct, Served}
-use Rattle.fs_world.specs.declared.seat.Seat.{Seat}
-use Rattle.fs_world.specs.declared.served.Served.{Served as TheServed}
+use Rattle.fs_world.specs.declared.servers.session_state.SessionState.{SessionState}
+use Rattle.fs_world.specs.declared.servers.world.Served.{Served as TheServed}
 use Rattle.fs_world.proofs.Causes.{step_says}
 use Rattle.fs_world.proofs.Said.{AreKnown, caused_append}
 
@@ -46,19 +46,19 @@ direct_caused (e ∷ es) before w =
 
 -- ## Every event of the servers form says what was caused
 
-served_caused : (es : List Event) (before : List Said) (w : TheServed) → AreKnown before w.seats → AllCarry (Served w) es → AllCaused before (said_from (Served w) es)
+served_caused : (es : List Event) (before : List Said) (w : TheServed) → AreKnown before w.sessions → AllCarry (Served w) es → AllCaused before (said_from (Served w) es)
 served_caused [] before w h carry = tt
 served_caused (e ∷ es) before w h carry =
     let says = step_says before w h e.reading carry.0 e.what in
     caused_append before (said_at (Served w) e) (said_from (step (Served w) e).world es) says.caused
     (served_caused es (before ++ said_at (Served w) e) (served.step_of w e.reading e.what).world says.known carry.1)
 
-none_seated : (o : Option Seat) (seat : Seat) → o ≡ None → o ≡ Some seat → ⊥
-none_seated o seat none some = absurd (cc)
+none_has_no_state : (o : Option SessionState) (state : SessionState) → o ≡ None → o ≡ Some state → ⊥
+none_has_no_state o state none some = absurd (cc)
 
-none_seats : AreKnown [] empty
-none_seats s seat at = absurd (none_seated _ seat (get-empty nat_cmp s.0) at)
+none_sessions : AreKnown [] empty
+none_sessions s state at = absurd (none_has_no_state _ state (get-empty nat_cmp s.0) at)
 
 pub all_caused : (h : Head) (es : List Event) → AllCarry (first_world h) es → AllCaused [] (said_from (first_world h) es)
 all_caused head.Direct es carry = direct_caused es [] first_direct
-all_caused (head.Servers servers skew term) es carry = served_caused es [] (first_served servers skew term) none_seats carry
+all_caused (head.Servers servers skew term) es carry = served_caused es [] (first_served servers skew term) none_sessions carry

@@ -64,13 +64,13 @@ use Rattle.fs_serial.specs.declared.in_flight.InFlight.{InFlight}
 use Rattle.fs_schedule.specs.declared.event.What.{What}
 use Rattle.fs_schedule.specs.declared.event.What.TheVariants.{Join, Do, Tell, Turn, Recall as AskBack, Move}
 use Rattle.fs_world.specs.Over.{AllCaused, Said, all_said, said_in, sender_in}
-use Rattle.fs_world.specs.Packets.{first_untold}
-use Rattle.fs_world.specs.Refusals.{packet_told}
-use Rattle.fs_world.specs.Carried.{Carries, GivesFirst, AreFirstOf, between, downs_of, joined_at, post_of, seat_post}
-use Rattle.fs_world.specs.Served.{SeatStepped, Seats, ServerStepped, Stepped, arrives, at_server, client_acts, client_turns, comes, do_at, first_seat, flying_without, join_at, seats_without, seats_without_each, server_step_at, server_told, server_told_at, step_of, tell_at, told_at, turn_at, with_downs, with_seat, with_server, without_joined, without_up}
+use Rattle.fs_world.specs.Packets.{first_undelivered}
+use Rattle.fs_world.specs.Refusals.{packet_delivered}
+use Rattle.fs_world.specs.Carried.{Carries, GivesFirst, AreFirstOf, between, downs_of, joined_at, post_of, state_post}
+use Rattle.fs_world.specs.Served.{SessionStepped, SessionStates, ServerStepped, Stepped, arrives, at_server, client_acts, client_turns, comes, do_at, first_session_state, flying_without, join_at, sessions_without, sessions_without_each, server_step_at, server_receive_packet, server_receive_packet_at, step_of, tell_at, client_receive_packet_at, turn_at, with_downs, with_session, with_server, without_joined, without_up}
 use Rattle.fs_world.specs.declared.form.Form.TheVariants as form
-use Rattle.fs_world.specs.declared.seat.Seat.{Seat}
-use Rattle.fs_world.specs.declared.served.Served.{Served}
+use Rattle.fs_world.specs.declared.servers.session_state.SessionState.{SessionState}
+use Rattle.fs_world.specs.declared.servers.world.Served.{Served}
 use Rattle.fs_world.proofs.HeardEach.{answers_in, heard_is}
 use Rattle.fs_world.proofs.HeardSays.{Says, heard_says}
 use Rattle.fs_world.proofs.ServerEach.{heard_is as server_heard_is, heard_notes as noted_there, server_notes, taking, taking_all}
@@ -187,178 +187,183 @@ answered_caused before from k n = tt
 
 -- ## A server's steps, one after another
 
--- it takes its step while these are the seats
-taken_says : (before : List Said) (now : ℕ) (from : Option Peer) (k : ℕ) (c : Core) (e : ServerEvent) (seats : Seats) → IsFrom from e → AreKnown before seats → Says before (says from k (core_steps c now e).out.note) (with_downs k (core_steps c now e).out.send seats)
-taken_says before now from k c e seats is known =
+-- it takes its step while these are the sessions
+taken_says : (before : List Said) (now : ℕ) (from : Option Peer) (k : ℕ) (c : Core) (e : ServerEvent) (sessions : SessionStates) → IsFrom from e → AreKnown before sessions → Says before (says from k (core_steps c now e).out.note) (with_downs k (core_steps c now e).out.send sessions)
+taken_says before now from k c e sessions is known =
     let new = says from k (core_steps c now e).out.note in
     record {
       caused = answered_caused before from k (core_steps c now e).out.note;
-      known = downs_known (before ++ new) k (core_steps c now e).out.send seats (given_behind_all before new (core_steps c now e).out.send (step_given k c now e from is)) (all_more before new seats known);
+      known = downs_known (before ++ new) k (core_steps c now e).out.send sessions (given_behind_all before new (core_steps c now e).out.send (step_given k c now e from is)) (all_more before new sessions known);
     }
 
 -- the events that a packet of this one brings
-next_from : (k : ℕ) (who : Peer) (e : ServerEvent) (seats : Seats) (in_flight : List InFlight) → IsNext k who e seats in_flight → IsFrom (Some who) e
-next_from k (Client s) e seats in_flight h = subst (IsFrom (Some (Client s))) (sym h.is) refl
-next_from k (Server i) e seats in_flight h = subst (IsFrom (Some (Server i))) (sym h.is) tt
+next_from : (k : ℕ) (who : Peer) (e : ServerEvent) (sessions : SessionStates) (in_flight : List InFlight) → IsNext k who e sessions in_flight → IsFrom (Some who) e
+next_from k (Client s) e sessions in_flight h = subst (IsFrom (Some (Client s))) (sym h.is) refl
+next_from k (Server i) e sessions in_flight h = subst (IsFrom (Some (Server i))) (sym h.is) tt
 
-all_say : (es : List ServerEvent) (before : List Said) (now k : ℕ) (who : Peer) (x : ServerStepped) (seats : Seats) (in_flight : List InFlight) → AreNext k who es seats in_flight → AreKnown before x.seats
-    → Says before (all_said (Some who) (Some (Server k)) (server_notes now es x.server)) (taking_all k now es x).seats
-all_say [] before now k who x seats in_flight next known = record { caused = tt; known = all_more before [] x.seats known }
-all_say (e ∷ es) before now k who x seats in_flight next known =
+all_say : (es : List ServerEvent) (before : List Said) (now k : ℕ) (who : Peer) (x : ServerStepped) (sessions : SessionStates) (in_flight : List InFlight) → AreNext k who es sessions in_flight → AreKnown before x.sessions
+    → Says before (all_said (Some who) (Some (Server k)) (server_notes now es x.server)) (taking_all k now es x).sessions
+all_say [] before now k who x sessions in_flight next known = record { caused = tt; known = all_more before [] x.sessions known }
+all_say (e ∷ es) before now k who x sessions in_flight next known =
     let said : Note = note.Server (core_steps x.server now e).out.note in
     let new = all_said (Some who) (Some (Server k)) (said ∷ []) in
     let y = taking k now e x in
     let more = all_said (Some who) (Some (Server k)) (server_notes now es y.server) in
-    let first = taken_says before now (Some who) k x.server e x.seats (next_from k who e seats in_flight next.0) known in
-    let then = all_say es (before ++ new) now k who y (seats_without k who seats) (flying_without k who in_flight) next.1 first.known in
-    subst (λ (ss : List Said). Says before ss (taking_all k now es y).seats) (ap (λ (ss : List Said). ss ++ more) (append-nil (said_in (Some who) (Some (Server k)) said)))
+    let first = taken_says before now (Some who) k x.server e x.sessions (next_from k who e sessions in_flight next.0) known in
+    let then =
+    all_say es (before ++ new) now k who y (sessions_without k who sessions) (flying_without k who in_flight) next.1 first.known in
+    subst (λ (ss : List Said). Says before ss (taking_all k now es y).sessions) (ap (λ (ss : List Said). ss ++ more) (append-nil (said_in (Some who) (Some (Server k)) said)))
     (record {
       caused = caused_append before new more first.caused then.caused;
-      known = subst (λ (ss : List Said). AreKnown ss (taking_all k now es y).seats) (append_assoc before new more) then.known;
+      known = subst (λ (ss : List Said). AreKnown ss (taking_all k now es y).sessions) (append_assoc before new more) then.known;
     })
 
 -- of what a packet gave
-heard_says_there : (x : HeardThere) (es : List ServerEvent) (before : List Said) (now k : ℕ) (who : Peer) (y : ServerStepped) (seats : Seats) (in_flight : List InFlight) → AreNext k who es seats in_flight → AreKnown before y.seats
-    → Says before (all_said (Some who) (Some (Server k)) (noted_there x now es y.server)) (taking_all k now es y).seats
-heard_says_there x [] before now k who y seats in_flight next known =
-    elim (x.fresh == 0) as (λ b. Says before (all_said (Some who) (Some (Server k)) (cond b note.None note.Part ∷ [])) y.seats) [
-      | true ↦ record { caused = tt; known = all_more before [] y.seats known }
-      | false ↦ record { caused = tt; known = all_more before [] y.seats known }
+heard_says_there : (x : HeardThere) (es : List ServerEvent) (before : List Said) (now k : ℕ) (who : Peer) (y : ServerStepped) (sessions : SessionStates) (in_flight : List InFlight) → AreNext k who es sessions in_flight → AreKnown before y.sessions
+    → Says before (all_said (Some who) (Some (Server k)) (noted_there x now es y.server)) (taking_all k now es y).sessions
+heard_says_there x [] before now k who y sessions in_flight next known =
+    elim (x.fresh == 0) as (λ b. Says before (all_said (Some who) (Some (Server k)) (cond b note.None note.Part ∷ [])) y.sessions) [
+      | true ↦ record { caused = tt; known = all_more before [] y.sessions known }
+      | false ↦ record { caused = tt; known = all_more before [] y.sessions known }
     ]
-heard_says_there x (e ∷ es) before now k who y seats in_flight next known = all_say (e ∷ es) before now k who y seats in_flight next known
+heard_says_there x (e ∷ es) before now k who y sessions in_flight next known =
+    all_say (e ∷ es) before now k who y sessions in_flight next known
 
 -- messages of sessions are on their way no more
-one_gone : (before : List Said) (k : ℕ) (who : Peer) (seats : Seats) → AreKnown before seats → AreKnown before (seats_without k who seats)
-one_gone before k (Server j) seats h = h
-one_gone before k (Client s) seats h = at (get seats s.0) refl
+one_gone : (before : List Said) (k : ℕ) (who : Peer) (sessions : SessionStates) → AreKnown before sessions
+    → AreKnown before (sessions_without k who sessions)
+one_gone before k (Server j) sessions h = h
+one_gone before k (Client s) sessions h = at (get sessions s.0) refl
   where
-    at : (o : Option Seat) → get seats s.0 ≡ o → AreKnown before (without_up k o s.0 seats)
+    at : (o : Option SessionState) → get sessions s.0 ≡ o → AreKnown before (without_up k o s.0 sessions)
     at None is = h
-    at (Some seat) is = known_put before seats s (record seat { up = without_first (is_with k) seat.up }) h (record { over = (h s seat is).over; coming = (h s seat is).coming })
+    at (Some state) is = known_put before sessions s (record state { up = without_first (is_with k) state.up }) h (record { over = (h s state is).over; coming = (h s state is).coming })
 
-gone_known : {Y : Type 0} (before : List Said) (k : ℕ) (who : Peer) (ys : List Y) (seats : Seats) → AreKnown before seats → AreKnown before (seats_without_each k who ys seats)
-gone_known before k who [] seats h = h
-gone_known before k who (y ∷ ys) seats h = gone_known before k who ys (seats_without k who seats) (one_gone before k who seats h)
+gone_known : {Y : Type 0} (before : List Said) (k : ℕ) (who : Peer) (ys : List Y) (sessions : SessionStates) → AreKnown before sessions → AreKnown before (sessions_without_each k who ys sessions)
+gone_known before k who [] sessions h = h
+gone_known before k who (y ∷ ys) sessions h =
+    gone_known before k who ys (sessions_without k who sessions) (one_gone before k who sessions h)
 
 -- ## Each event
 
-module _ (before : List Said) (w : Served) (h : AreKnown before w.seats) (now : ℕ) (from : Option Peer) where
+module _ (before : List Said) (w : Served) (h : AreKnown before w.sessions) (now : ℕ) (from : Option Peer) where
   abbrev pub Tells : Stepped → Type 0
-  Tells x = Says before (all_said from x.outcome.who x.outcome.notes) x.world.seats
+  Tells x = Says before (all_said from x.outcome.who x.outcome.notes) x.world.sessions
 
-  silent : (seats : Seats) → AreKnown before seats → Says before [] seats
-  silent seats k = record { caused = tt; known = all_more before [] seats k }
+  silent : (sessions : SessionStates) → AreKnown before sessions → Says before [] sessions
+  silent sessions k = record { caused = tt; known = all_more before [] sessions k }
 
   -- ## At a session
 
-  module _ (s : Session) (seat : Seat) (at : get w.seats s.0 ≡ Some seat) where
-    seated : IsKnown before s seat
-    seated = h s seat at
+  module _ (s : Session) (state : SessionState) (at : get w.sessions s.0 ≡ Some state) where
+    known_here : IsKnown before s state
+    known_here = h s state at
 
-    -- the session's seat is this, which is known behind what is said
-    sits : (new : List Said) (next : Seat) → AllCaused before new → IsKnown (before ++ new) s next → Says before new (insert w.seats s.0 next)
-    sits new next caused k = record { caused = caused; known = known_put (before ++ new) w.seats s next (all_more before new w.seats h) k }
+    -- the session's state is this, which is known behind what is said
+    sits : (new : List Said) (next : SessionState) → AllCaused before new → IsKnown (before ++ new) s next → Says before new (insert w.sessions s.0 next)
+    sits new next caused k =
+        record { caused = caused; known = known_put (before ++ new) w.sessions s next (all_more before new w.sessions h) k }
 
-    still_coming : (new : List Said) (down : List (ℕ × Answer)) → ((m : ℕ × Answer) → In m down → In m seat.down) → (m : ℕ × Answer) → In m down → WasGiven (before ++ new) s m.1
-    still_coming new down few m i = (all_more before new w.seats h s seat at).coming m (few m i)
+    still_coming : (new : List Said) (down : List (ℕ × Answer)) → ((m : ℕ × Answer) → In m down → In m state.down) → (m : ℕ × Answer) → In m down → WasGiven (before ++ new) s m.1
+    still_coming new down few m i = (all_more before new w.sessions h s state at).coming m (few m i)
 
-    acts : (o : Op) → Tells (do_at (Some seat) now s o w)
+    acts : (o : Op) → Tells (do_at (Some state) now s o w)
     acts o =
-        let p = act_plan seat.client now o in
+        let p = act_plan state.client now o in
         let new = all_said from (Some (Client s)) (note.Act p.out.note ∷ []) in
-        sits new (client_acts now s o seat w.journal w.packets).seat
-        (act_caused before from s p.out.note (λ n e. seated.over n (act_over seat.client now n o e)))
+        sits new (client_acts now s o state w.journal w.packets).state
+        (act_caused before from s p.out.note (λ n e. known_here.over n (act_over state.client now n o e)))
         (record {
-          over = λ n e. heard_more before new s n (seated.over n (sym (acts_stay seat.client now o) ∙ e));
-          coming = still_coming new seat.down (λ m i. i);
+          over = λ n e. heard_more before new s n (known_here.over n (sym (acts_stay state.client now o) ∙ e));
+          coming = still_coming new state.down (λ m i. i);
         })
 
-    turns : Tells (turn_at (Some seat) now s w)
+    turns : Tells (turn_at (Some state) now s w)
     turns =
-        let p = turn_plan seat.client now in
+        let p = turn_plan state.client now in
         let new = all_said from (Some (Client s)) (note.Client p.out.note ∷ []) in
-        sits new (client_turns now s seat w.journal w.packets).seat
-        (note_caused before from s p.out.note (turn_noted before s (begun now seat.client)))
+        sits new (client_turns now s state w.journal w.packets).state
+        (note_caused before from s p.out.note (turn_noted before s (begun now state.client)))
         (record {
-          over = λ n e. heard_more before new s n (seated.over n (sym (turns_stay seat.client now) ∙ e));
-          coming = still_coming new seat.down (λ m i. i);
+          over = λ n e. heard_more before new s n (known_here.over n (sym (turns_stay state.client now) ∙ e));
+          coming = still_coming new state.down (λ m i. i);
         })
 
-  join_says : (s : Session) (o : Option Seat) → Tells (join_at o s w)
-  join_says s None = silent (insert w.seats s.0 (first_seat w.term s)) (known_put before w.seats s (first_seat w.term s) h (record { over = λ n e. absurd (cc e); coming = λ m i. absurd i }))
-  join_says s (Some seat) = silent w.seats h
+  join_says : (s : Session) (o : Option SessionState) → Tells (join_at o s w)
+  join_says s None = silent (insert w.sessions s.0 (first_session_state w.term s)) (known_put before w.sessions s (first_session_state w.term s) h (record { over = λ n e. absurd (cc e); coming = λ m i. absurd i }))
+  join_says s (Some state) = silent w.sessions h
 
-  do_says : (s : Session) (op : Op) (o : Option Seat) → get w.seats s.0 ≡ o → Tells (do_at o now s op w)
-  do_says s op None at = silent w.seats h
-  do_says s op (Some seat) at = acts s seat at op
+  do_says : (s : Session) (op : Op) (o : Option SessionState) → get w.sessions s.0 ≡ o → Tells (do_at o now s op w)
+  do_says s op None at = silent w.sessions h
+  do_says s op (Some state) at = acts s state at op
 
-  turns_says : (s : Session) (o : Option Seat) → get w.seats s.0 ≡ o → Tells (turn_at o now s w)
-  turns_says s None at = silent w.seats h
-  turns_says s (Some seat) at = turns s seat at
+  turns_says : (s : Session) (o : Option SessionState) → get w.sessions s.0 ≡ o → Tells (turn_at o now s w)
+  turns_says s None at = silent w.sessions h
+  turns_says s (Some state) at = turns s state at
 
-  told_says : (s : Session) (k : ℕ) (p : Packet) (o : Option Seat) → get w.seats s.0 ≡ o → AreFirstOf (joined_at (seat_post o) (Server k) p) (downs_of k o) → Tells (told_at o now s k p w)
-  told_says s k p None at f = silent w.seats h
-  told_says s k p (Some seat) at f =
-      let a = post_accepted seat.post (Server k) p in
-      let there : Seat = record seat { post = a.links } in
-      let heard = answers_in k a.heard.joined seat.down f in
-      subst (λ (x : SeatStepped). Tells (with_seat s x w)) (sym (heard_is s now k (heard_in (Server k) p) a.heard heard.0 there w.journal w.packets heard.1))
-      (heard_says before w.seats h now from s seat at k (post_due a.links false (heard_in (Server k) p)).links a.heard heard.0 heard.2)
+  told_says : (s : Session) (k : ℕ) (p : Packet) (o : Option SessionState) → get w.sessions s.0 ≡ o → AreFirstOf (joined_at (state_post o) (Server k) p) (downs_of k o) → Tells (client_receive_packet_at o now s k p w)
+  told_says s k p None at f = silent w.sessions h
+  told_says s k p (Some state) at f =
+      let a = post_accepted state.post (Server k) p in
+      let there : SessionState = record state { post = a.links } in
+      let heard = answers_in k a.heard.joined state.down f in
+      subst (λ (x : SessionStepped). Tells (with_session s x w)) (sym (heard_is s now k (heard_in (Server k) p) a.heard heard.0 there w.journal w.packets heard.1))
+      (heard_says before w.sessions h now from s state at k (post_due a.links false (heard_in (Server k) p)).links a.heard heard.0 heard.2)
 
   -- ## At a server that there is
 
   module _ (k : ℕ) (c : Core) (post : Links) where
-    told_server : (who : Peer) (p : Packet) → from ≡ Some who → AreFirstOf (post_accepted post who p).heard.joined (between w who (Server k)) → Tells (with_server k (server_told now k who p (at_server c post w)) w)
-    told_server who p of f =
+    server_receives : (who : Peer) (p : Packet) → from ≡ Some who → AreFirstOf (post_accepted post who p).heard.joined (between w who (Server k)) → Tells (with_server k (server_receive_packet now k who p (at_server c post w)) w)
+    server_receives who p of f =
         let a = post_accepted post who p in
         let x : ServerStepped = without_joined k who a.heard.joined (record (at_server c post w) { post = a.links }) in
         let es = events_in w k who a.heard.joined f in
-        let known = gone_known before k who a.heard.joined w.seats h in
-        let then = heard_says_there a.heard es.0 before now k who x w.seats w.in_flight es.2 known in
+        let known = gone_known before k who a.heard.joined w.sessions h in
+        let then = heard_says_there a.heard es.0 before now k who x w.sessions w.in_flight es.2 known in
         subst (λ (y : ServerStepped). Tells (with_server k y w)) (sym (server_heard_is k now who (heard_in who p) a.heard es.0 x es.1))
-        (subst (λ (o : Option Peer). Says before (all_said o (Some (Server k)) (noted_there a.heard now es.0 c)) (taking_all k now es.0 x).seats) (sym of) then)
+        (subst (λ (o : Option Peer). Says before (all_said o (Some (Server k)) (noted_there a.heard now es.0 c)) (taking_all k now es.0 x).sessions) (sym of) then)
 
   -- ## At any server
 
-  told_at_server : (k : ℕ) (who : Peer) (p : Packet) (c : Option Core) (post : Option Links) → from ≡ Some who → AreFirstOf (joined_at post who p) (between w who (Server k)) → Tells (server_told_at c post now k who p w)
-  told_at_server k who p (Some c) (Some post) of f = told_server k c post who p of f
-  told_at_server k who p (Some c) None of f = silent w.seats h
-  told_at_server k who p None (Some post) of f = silent w.seats h
-  told_at_server k who p None None of f = silent w.seats h
+  receive_packet_at_server : (k : ℕ) (who : Peer) (p : Packet) (c : Option Core) (post : Option Links) → from ≡ Some who → AreFirstOf (joined_at post who p) (between w who (Server k)) → Tells (server_receive_packet_at c post now k who p w)
+  receive_packet_at_server k who p (Some c) (Some post) of f = server_receives k c post who p of f
+  receive_packet_at_server k who p (Some c) None of f = silent w.sessions h
+  receive_packet_at_server k who p None (Some post) of f = silent w.sessions h
+  receive_packet_at_server k who p None None of f = silent w.sessions h
 
   own_says : (k : ℕ) (turn : Bool) (e : ServerEvent) (c : Option Core) (post : Option Links) → IsFrom from e → Tells (server_step_at c post k turn now e w)
-  own_says k turn e (Some c) (Some post) is = taken_says before now from k c e w.seats is h
-  own_says k turn e (Some c) None is = silent w.seats h
-  own_says k turn e None (Some post) is = silent w.seats h
-  own_says k turn e None None is = silent w.seats h
+  own_says k turn e (Some c) (Some post) is = taken_says before now from k c e w.sessions is h
+  own_says k turn e (Some c) None is = silent w.sessions h
+  own_says k turn e None (Some post) is = silent w.sessions h
+  own_says k turn e None None is = silent w.sessions h
 
   -- ## A packet is told
 
   comes_says : (who to : Peer) (p : Packet) → from ≡ Some who → AreFirstOf (joined_at (post_of w to) who p) (between w who to) → Tells (comes now who to p w)
-  comes_says (Client s) (Server k) p of f = told_at_server k (Client s) p (slice_get w.servers k) (slice_get w.posts k) of f
-  comes_says (Server j) (Server k) p of f = told_at_server k (Server j) p (slice_get w.servers k) (slice_get w.posts k) of f
-  comes_says (Server j) (Client s) p of f = told_says s j p (get w.seats s.0) refl f
-  comes_says (Client r) (Client s) p of f = silent w.seats h
+  comes_says (Client s) (Server k) p of f = receive_packet_at_server k (Client s) p (slice_get w.servers k) (slice_get w.posts k) of f
+  comes_says (Server j) (Server k) p of f = receive_packet_at_server k (Server j) p (slice_get w.servers k) (slice_get w.posts k) of f
+  comes_says (Server j) (Client s) p of f = told_says s j p (get w.sessions s.0) refl f
+  comes_says (Client r) (Client s) p of f = silent w.sessions h
 
   arrives_says : (who to : Peer) (p : Option Packet) → from ≡ Some who → GivesFirst w who to p → Tells (arrives now who to p w)
   arrives_says who to None of f = absurd f
   arrives_says who to (Some p) of f = comes_says who to p of f
 
 -- each event, which a packet of this one brings, if any does
-module _ (before : List Said) (w : Served) (h : AreKnown before w.seats) (now : ℕ) where
+module _ (before : List Said) (w : Served) (h : AreKnown before w.sessions) (now : ℕ) where
   abbrev pub TellsOf : What → Type 0
   TellsOf what = Tells before w h now (sender_in (form.Served w) what) (step_of w now what)
 
-  tell_says : Carries w → (what : What) (o : Option Sent) (k : ℕ) → packet_told w what ≡ o → slice_get w.packets.sent k ≡ o → Tells before w h now (option_map (λ (x : Sent). x.from) o) (tell_at o now k w)
-  tell_says carry what None k is at = silent before w h now None w.seats h
+  tell_says : Carries w → (what : What) (o : Option Sent) (k : ℕ) → packet_delivered w what ≡ o → slice_get w.packets.sent k ≡ o → Tells before w h now (option_map (λ (x : Sent). x.from) o) (tell_at o now k w)
+  tell_says carry what None k is at = silent before w h now None w.sessions h
   tell_says carry what (Some x) k is at = arrives_says before w h now (Some x.from) x.from x.to (packet_at x.bytes) refl (carry x (In-got w.packets.sent k x at))
 
   pub step_says : Carries w → (what : What) → TellsOf what
-  step_says carry (Join s) = join_says before w h now None s (get w.seats s.0)
-  step_says carry (Do s o) = do_says before w h now None s o (get w.seats s.0) refl
-  step_says carry (Tell None) = tell_says carry (Tell None) (slice_get w.packets.sent (first_untold w.packets.told)) (first_untold w.packets.told) refl refl
+  step_says carry (Join s) = join_says before w h now None s (get w.sessions s.0)
+  step_says carry (Do s o) = do_says before w h now None s o (get w.sessions s.0) refl
+  step_says carry (Tell None) = tell_says carry (Tell None) (slice_get w.packets.sent (first_undelivered w.packets.delivered)) (first_undelivered w.packets.delivered) refl refl
   step_says carry (Tell (Some k)) = tell_says carry (Tell (Some k)) (slice_get w.packets.sent k) k refl refl
-  step_says carry (Turn (Client s)) = turns_says before w h now None s (get w.seats s.0) refl
+  step_says carry (Turn (Client s)) = turns_says before w h now None s (get w.sessions s.0) refl
   step_says carry (Turn (Server k)) = own_says before w h now None k true TheTurn (slice_get w.servers k) (slice_get w.posts k) tt
   step_says carry (AskBack k field) = own_says before w h now None k false (TheRecall field) (slice_get w.servers k) (slice_get w.posts k) tt
   step_says carry (Move k prefix to) = own_says before w h now None k false (TheMove prefix to) (slice_get w.servers k) (slice_get w.posts k) tt

@@ -15,7 +15,7 @@ use Rattle.fs_model.specs.Namespace.{NodeMap}
 use Rattle.fs_model.specs.Children.{child_at}
 use Rattle.fs_model.specs.Step.{Stepped, step, reply_alone, create, create_in, create_as, is_child, with_new_node}
 use Rattle.fs_msg.specs.declared.item.Item.{Item}
-use Rattle.fs_world.specs.declared.direct.Direct.{Direct}
+use Rattle.fs_world.specs.declared.direct.world.Direct.{Direct}
 use Rattle.fs_world.specs.Direct.{Answer, Numbers, answer, answer_of, candidate, candidate_of, with_item, create_answer, item_of, with_answer, with_number_used, is_made, next_of}
 
 -- a create that is not made answers as one without an identifier, and changes as little

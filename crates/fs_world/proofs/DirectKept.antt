@@ -15,16 +15,16 @@ use Rattle.fs_msg.specs.Journal.{IsSerialRun}
 use Rattle.fs_schedule.specs.declared.event.Head.TheVariants as head
 use Rattle.fs_schedule.specs.declared.event.What.{What}
 use Rattle.fs_schedule.specs.declared.event.What.TheVariants.{Join, Do, Tell, Turn, Recall, Move}
-use Rattle.fs_world.specs.declared.direct.Direct.{Direct}
+use Rattle.fs_world.specs.declared.direct.world.Direct.{Direct}
 use Rattle.fs_world.specs.Direct.{Answer, Stepped, answer, answer_step, do_at, first_direct, item_of, join_at, join_step, step_of}
 use Rattle.fs_world.specs.World.{may_happen}
-use Rattle.fs_world.specs.Order.{Tale, Told, after, AllAdmitted, HasNumberOf, Agrees, AreNumberedFrom, items_of}
+use Rattle.fs_world.specs.Order.{Tale, ReplyGiven, after, AllAdmitted, HasNumberOf, Agrees, AreNumberedFrom, items_of}
 use Rattle.fs_world.proofs.Serial.{serial_push, IsStep, answer_steps, AllAsk, asks_push}
 use Rattle.fs_world.proofs.Numbered.{IsCounted, counted_joined, counted_answered, none_served, one_item}
 use Rattle.fs_world.proofs.Replies.{admitted_push, admitted_still}
 
 -- what holds of a world in which this was told
-pub record Holds (told : List Told) (w : Direct) : Type 0 where
+pub record Holds (told : List ReplyGiven) (w : Direct) : Type 0 where
   pub serial : IsSerialRun first_space w.journal w.space
   pub counted : (s : Session) → IsCounted w.journal w.asked s
   pub unserved : (k : ℕ) → items_of (Server k) w.journal ≡ []
@@ -33,10 +33,10 @@ pub record Holds (told : List Told) (w : Direct) : Type 0 where
 
 -- ## One event, by what it comes to
 
-holds_nothing : (told : List Told) (w : Direct) → Holds told w → Holds (told ++ []) w
+holds_nothing : (told : List ReplyGiven) (w : Direct) → Holds told w → Holds (told ++ []) w
 holds_nothing told w h = record { serial = h.serial; counted = h.counted; unserved = h.unserved; admitted = admitted_still w.journal told h.admitted; asking = h.asking }
 
-holds_begun : (told : List Told) (w : Direct) (s : Session) → get w.asked s.0 ≡ None → Holds told w → Holds (told ++ []) (join_step w s).world
+holds_begun : (told : List ReplyGiven) (w : Direct) (s : Session) → get w.asked s.0 ≡ None → Holds told w → Holds (told ++ []) (join_step w s).world
 holds_begun told w s none h = record {
   serial = h.serial;
   counted = λ c. counted_joined w.journal w.asked s c none (h.counted c);
@@ -45,7 +45,7 @@ holds_begun told w s none h = record {
   asking = h.asking;
 }
 
-holds_answered : (told : List Told) (w : Direct) (s : Session) (o : Op) (n : ℕ) (a : Answer) → get w.asked s.0 ≡ Some n → IsStep w.space s o a → Holds told w
+holds_answered : (told : List ReplyGiven) (w : Direct) (s : Session) (o : Op) (n : ℕ) (a : Answer) → get w.asked s.0 ≡ Some n → IsStep w.space s o a → Holds told w
     → Holds (told ++ record { session = s; n = n + 1; asked = o; reply = a.reply } ∷ []) (answer_step w s (n + 1) a).world
 holds_answered told w s o n a some steps h = record {
   serial = subst (IsSerialRun first_space (w.journal ++ item_of s (n + 1) a ∷ [])) steps.space (serial_push first_space w.journal w.space (item_of s (n + 1) a) h.serial steps.plain steps.reply);
@@ -86,12 +86,12 @@ first_holds = record {
   asking = tt;
 }
 
-pub actors_numbered : (told : List Told) (w : Direct) → Holds told w → (who : Peer) → AreNumberedFrom 1 (items_of who w.journal)
+pub actors_numbered : (told : List ReplyGiven) (w : Direct) → Holds told w → (who : Peer) → AreNumberedFrom 1 (items_of who w.journal)
 actors_numbered told w h (Server k) = subst (AreNumberedFrom 1) (sym (h.unserved k)) tt
 actors_numbered told w h (Client s) = (h.counted s).numbered
 
 -- an item that has the number of what was told is the one that was told
-pub agree : (told : List Told) (w : Direct) → Holds told w → (t : Told) (i : Item) → In t told → In i w.journal → HasNumberOf i t → Agrees i t
+pub agree : (told : List ReplyGiven) (w : Direct) → Holds told w → (t : ReplyGiven) (i : Item) → In t told → In i w.journal → HasNumberOf i t → Agrees i t
 agree told w h t i m at has =
     let found = h.admitted t m in
     subst (λ (x : Item). Agrees x t) (one_item w.journal t.session found.0 i (h.counted t.session).numbered found.1 at found.2.by has.by (found.2.n ∙ sym has.n)) found.3

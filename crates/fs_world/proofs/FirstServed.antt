@@ -14,7 +14,7 @@ use Rattle.fs_world.specs.Order.{first_tale}
 use Rattle.fs_world.specs.Parts.{lines_in, lines_of}
 use Rattle.fs_world.specs.Served.{first_served}
 use Rattle.fs_world.proofs.SerialLaws.{EventLaws}
-use Rattle.fs_world.proofs.Told.{IsTelling}
+use Rattle.fs_world.proofs.RepliesGiven.{IsTelling}
 use Rattle.fs_world.proofs.SessionSteps.{HoldsOf}
 use Rattle.fs_world.proofs.StayingServers.{first_count}
 

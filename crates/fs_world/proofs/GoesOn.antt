@@ -12,7 +12,7 @@ use Rattle.fs_schedule.specs.Spelling.{FitsHead}
 use Rattle.fs_world.specs.World.{AllMayHappen, first_world, step}
 use Rattle.fs_world.specs.declared.form.Form.{Form}
 use Rattle.fs_world.specs.declared.form.Form.TheVariants.{Direct, Served}
-use Rattle.fs_world.specs.declared.served.Served.{Served as TheServed}
+use Rattle.fs_world.specs.declared.servers.world.Served.{Served as TheServed}
 use Rattle.fs_world.proofs.DirectKept as direct
 use Rattle.fs_world.proofs.FirstServed.{first_holds}
 use Rattle.fs_world.proofs.ServedSteps.{step_holds}

@@ -22,10 +22,10 @@ use Rattle.fs_actor.specs.Several.{ClientRun, client_begins, client_hears_each, 
 use Rattle.fs_actor.proofs.Several.{client_of_one, client_of_several}
 use Rattle.fs_client.specs.declared.state.Client.{Client as ClientCore}
 use Rattle.fs_schedule.specs.declared.outcome.Outcome.{Outcome}
-use Rattle.fs_world.specs.Calls.{IsRun, Spends, client_heard, client_hears_one, seat_left}
+use Rattle.fs_world.specs.Calls.{IsRun, Spends, client_heard, client_hears_one, session_left}
 use Rattle.fs_world.specs.Packets.{Packets, numbers_from, with_sent}
-use Rattle.fs_world.specs.Served.{SeatStepped, seat_ran, seat_stepped, up_after, with_read}
-use Rattle.fs_world.specs.declared.seat.Seat.{Seat}
+use Rattle.fs_world.specs.Served.{SessionStepped, session_ran, session_stepped, up_after, with_read}
+use Rattle.fs_world.specs.declared.servers.session_state.SessionState.{SessionState}
 use Rattle.fs_world.proofs.HeardEach.{each_quiet}
 
 -- ## One message at most
@@ -38,54 +38,55 @@ listed_read : (admitted : Option Item) (journal : List Item) → journal ++ list
 listed_read None journal = append-nil journal
 listed_read (Some i) journal = refl
 
-abbrev left : Session → ClientStep → List (ℕ × ClientMsg) → List (ℕ × Answer) → List Item → Packets → SeatStepped
+abbrev left : Session → ClientStep → List (ℕ × ClientMsg) → List (ℕ × Answer) → List Item → Packets → SessionStepped
 left s x up down journal packets = record {
-  seat = record { client = x.client; post = x.post; up = up; down = down };
+  state = record { client = x.client; post = x.post; up = up; down = down };
   journal = journal;
   packets = with_sent x.packets packets;
   outcome = record { who = Some (Client s); notes = x.note ∷ []; sent = numbers_from (length packets.sent) x.packets };
   spent = x.spent;
 }
 
-ran_alone : (s : Session) (c : ClientCore) (x : ClientStep) (down : List (ℕ × Answer)) (seat : Seat) (journal : List Item) (packets : Packets) → seat_ran s (client_alone s c x) down seat journal packets ≡ seat_stepped s x down seat journal packets
-ran_alone s c x down seat journal packets = λ i. left s x (listed_up x.send seat.up i) down (listed_read x.admitted journal i) packets
+ran_alone : (s : Session) (c : ClientCore) (x : ClientStep) (down : List (ℕ × Answer)) (state : SessionState) (journal : List Item) (packets : Packets) → session_ran s (client_alone s c x) down state journal packets ≡ session_stepped s x down state journal packets
+ran_alone s c x down state journal packets = λ i. left s x (listed_up x.send state.up i) down (listed_read x.admitted journal i) packets
 
-pub heard_as_one : (now : ℕ) (s : Session) (k : ℕ) (from : Option Peer) (h : Heard) (seat : Seat) (journal : List Item) (packets : Packets) → length h.joined ≤ 1
-    → client_heard now s k from h seat journal packets ≡ client_hears_one now s k from h (answer_heard h.joined) seat journal packets
-heard_as_one now s k from h seat journal packets few =
-    ap (λ (x : ClientRun). seat_ran s x seat.down seat journal packets) (client_of_one s now (Server k) from seat.post h seat.client few)
-    ∙ ran_alone s seat.client (client_took now (Server k) from h (record { client = seat.client; post = seat.post })) seat.down seat journal packets
+pub heard_as_one : (now : ℕ) (s : Session) (k : ℕ) (from : Option Peer) (h : Heard) (state : SessionState) (journal : List Item) (packets : Packets) → length h.joined ≤ 1
+    → client_heard now s k from h state journal packets ≡ client_hears_one now s k from h (answer_heard h.joined) state journal packets
+heard_as_one now s k from h state journal packets few =
+    ap (λ (x : ClientRun). session_ran s x state.down state journal packets)
+    (client_of_one s now (Server k) from state.post h state.client few)
+    ∙ ran_alone s state.client (client_took now (Server k) from h (record { client = state.client; post = state.post })) state.down state journal packets
 
 -- ## Several
 
-pub heard_each : (now : ℕ) (s : Session) (k : ℕ) (from : Option Peer) (h : Heard) (seat : Seat) (journal : List Item) (packets : Packets) → 1 < length h.joined
-    → client_heard now s k from h seat journal packets ≡ seat_ran s (client_replies from (client_hears_each s now (Server k) h.joined (client_begins seat.client seat.post []))) seat.down seat journal packets
-heard_each now s k from h seat journal packets several = ap (λ (x : ClientRun). seat_ran s x seat.down seat journal packets) (client_of_several s now (Server k) from seat.post h seat.client several)
+pub heard_each : (now : ℕ) (s : Session) (k : ℕ) (from : Option Peer) (h : Heard) (state : SessionState) (journal : List Item) (packets : Packets) → 1 < length h.joined
+    → client_heard now s k from h state journal packets ≡ session_ran s (client_replies from (client_hears_each s now (Server k) h.joined (client_begins state.client state.post []))) state.down state journal packets
+heard_each now s k from h state journal packets several = ap (λ (x : ClientRun). session_ran s x state.down state journal packets) (client_of_several s now (Server k) from state.post h state.client several)
 
-run_left : (s : Session) (x : ClientRun) (told : Outcome) (c : ClientCore) (post : Links) (seat : Seat) (journal : List Item) (packets after : Packets) → x.send ≡ [] → x.admitted ≡ [] → IsRun x s packets told c post after
-    → seat_left told (record seat { client = c; post = post }) journal after ≡ seat_ran s x seat.down seat journal packets
-run_left s x told c post seat journal packets after silent still ran =
-    let up : seat.up ≡ seat.up ++ x.send = sym (ap (λ (ms : List (ℕ × ClientMsg)). seat.up ++ ms) silent ∙ append-nil seat.up) in
+run_left : (s : Session) (x : ClientRun) (outcome : Outcome) (c : ClientCore) (post : Links) (state : SessionState) (journal : List Item) (packets after : Packets) → x.send ≡ [] → x.admitted ≡ [] → IsRun x s packets outcome c post after
+    → session_left outcome (record state { client = c; post = post }) journal after ≡ session_ran s x state.down state journal packets
+run_left s x outcome c post state journal packets after silent still ran =
+    let up : state.up ≡ state.up ++ x.send = sym (ap (λ (ms : List (ℕ × ClientMsg)). state.up ++ ms) silent ∙ append-nil state.up) in
     let items : journal ≡ journal ++ x.admitted = sym (ap (λ (is : List Item). journal ++ is) still ∙ append-nil journal) in
-    λ i. made (ran.client_then i) (ran.post_then i) (up i) (items i) (ran.packets_then i) (ran.told_then i) (sym ran.unspent i)
+    λ i. made (ran.client_then i) (ran.post_then i) (up i) (items i) (ran.packets_then i) (ran.outcome_then i) (sym ran.unspent i)
   where
-    made : ClientCore → Links → List (ℕ × ClientMsg) → List Item → Packets → Outcome → Option Counter → SeatStepped
-    made c post up journal packets told spent = record { seat = record { client = c; post = post; up = up; down = seat.down }; journal = journal; packets = packets; outcome = told; spent = spent }
+    made : ClientCore → Links → List (ℕ × ClientMsg) → List Item → Packets → Outcome → Option Counter → SessionStepped
+    made c post up journal packets outcome spent = record { state = record { client = c; post = post; up = up; down = state.down }; journal = journal; packets = packets; outcome = outcome; spent = spent }
 
 -- answers make it send nothing and admit nothing
-pub several_left : (now : ℕ) (s : Session) (k : ℕ) (from : Option Peer) (h : Heard) (told : Outcome) (c : ClientCore) (post : Links) (seat : Seat) (journal : List Item) (packets after : Packets) → 1 < length h.joined
-    → IsRun (client_replies from (client_hears_each s now (Server k) h.joined (client_begins seat.client seat.post []))) s packets told c post after
-    → seat_left told (record seat { client = c; post = post }) journal after ≡ client_heard now s k from h seat journal packets
-several_left now s k from h told c post seat journal packets after several ran =
-    let q = each_quiet s now (Server k) h.joined (client_begins seat.client seat.post []) in
-    run_left s (client_replies from (client_hears_each s now (Server k) h.joined (client_begins seat.client seat.post []))) told c post seat journal packets after q.send q.admitted ran
-    ∙ sym (heard_each now s k from h seat journal packets several)
+pub several_left : (now : ℕ) (s : Session) (k : ℕ) (from : Option Peer) (h : Heard) (outcome : Outcome) (c : ClientCore) (post : Links) (state : SessionState) (journal : List Item) (packets after : Packets) → 1 < length h.joined
+    → IsRun (client_replies from (client_hears_each s now (Server k) h.joined (client_begins state.client state.post []))) s packets outcome c post after
+    → session_left outcome (record state { client = c; post = post }) journal after ≡ client_heard now s k from h state journal packets
+several_left now s k from h outcome c post state journal packets after several ran =
+    let q = each_quiet s now (Server k) h.joined (client_begins state.client state.post []) in
+    run_left s (client_replies from (client_hears_each s now (Server k) h.joined (client_begins state.client state.post []))) outcome c post state journal packets after q.send q.admitted ran
+    ∙ sym (heard_each now s k from h state journal packets several)
 
 -- the run of a copy is that of the client itself
-pub run_alike : (now : ℕ) (s : Session) (k : ℕ) (from : Option Peer) (joined heard : List Joined) (copy client c : ClientCore) (post links : Links) (told : Outcome) (packets after : Packets) → joined ≡ heard → copy ≡ client
-    → IsRun (client_replies from (client_hears_each s now (Server k) joined (client_begins copy post []))) s packets told c links after → IsRun (client_replies from (client_hears_each s now (Server k) heard (client_begins client post []))) s packets told c links after
-run_alike now s k from joined heard copy client c post links told packets after same twin ran =
-    subst (λ (x : ClientRun). IsRun x s packets told c links after) (λ i. client_replies from (client_hears_each s now (Server k) (same i) (client_begins (twin i) post []))) ran
+pub run_alike : (now : ℕ) (s : Session) (k : ℕ) (from : Option Peer) (joined heard : List Joined) (copy client c : ClientCore) (post links : Links) (outcome : Outcome) (packets after : Packets) → joined ≡ heard → copy ≡ client
+    → IsRun (client_replies from (client_hears_each s now (Server k) joined (client_begins copy post []))) s packets outcome c links after → IsRun (client_replies from (client_hears_each s now (Server k) heard (client_begins client post []))) s packets outcome c links after
+run_alike now s k from joined heard copy client c post links outcome packets after same twin ran =
+    subst (λ (x : ClientRun). IsRun x s packets outcome c links after) (λ i. client_replies from (client_hears_each s now (Server k) (same i) (client_begins (twin i) post []))) ran
 
 -- ## What is spent
 

@@ -30,8 +30,8 @@ use Rattle.fs_serial.specs.Cluster.{is_with, without_first}
 use Rattle.fs_world.specs.Calls.{client_hears}
 use Rattle.fs_world.specs.Carried.{AreFirstOf}
 use Rattle.fs_world.specs.Packets.{Packets, numbers_from, with_sent}
-use Rattle.fs_world.specs.Served.{SeatStepped, seat_ran, without_each}
-use Rattle.fs_world.specs.declared.seat.Seat.{Seat}
+use Rattle.fs_world.specs.Served.{SessionStepped, session_ran, without_each}
+use Rattle.fs_world.specs.declared.servers.session_state.SessionState.{SessionState}
 use Rattle.fs_world.proofs.LinkedLists.{first_gone, found_joined, later_first}
 use Rattle.fs_world.proofs.NamedClients.{answer_admits, answer_silent}
 
@@ -91,8 +91,8 @@ notes_all now k [] c = []
 notes_all now k (a ∷ answers) c = note.Client (answer_plan c now k a).out.note ∷ notes_all now k answers (committed (answer_plan c now k a).ready c)
 
 -- what stands at the session then
-abbrev pub seat_after : ℕ → ℕ → List Answer → Links → Seat → Seat
-seat_after now k answers post seat = record { client = heard_all now k answers seat.client; post = post; up = seat.up; down = without_each answers (is_with k) seat.down }
+abbrev pub session_after : ℕ → ℕ → List Answer → Links → SessionState → SessionState
+session_after now k answers post state = record { client = heard_all now k answers state.client; post = post; up = state.up; down = without_each answers (is_with k) state.down }
 
 -- nothing is sent and nothing is admitted in between
 pub record IsQuiet (x y : ClientRun) : Type 0 where
@@ -148,18 +148,19 @@ heard_notes h now k [] c = quiet_note h ∷ []
 heard_notes h now k (a ∷ answers) c = notes_all now k (a ∷ answers) c
 
 -- the client heard these, and what is due went out
-abbrev pub seat_heard : Session → ℕ → ℕ → Option Peer → List Answer → List Note → Seat → List Item → Packets → SeatStepped
-seat_heard s now k from answers notes seat journal packets = record {
-  seat = seat_after now k answers (post_due seat.post false from).links seat;
+abbrev pub state_heard : Session → ℕ → ℕ → Option Peer → List Answer → List Note → SessionState → List Item → Packets → SessionStepped
+state_heard s now k from answers notes state journal packets = record {
+  state = session_after now k answers (post_due state.post false from).links state;
   journal = journal;
-  packets = with_sent (post_due seat.post false from).sent packets;
-  outcome = record { who = Some (Client s); notes = notes; sent = numbers_from (length packets.sent) (post_due seat.post false from).sent };
+  packets = with_sent (post_due state.post false from).sent packets;
+  outcome =
+      record { who = Some (Client s); notes = notes; sent = numbers_from (length packets.sent) (post_due state.post false from).sent };
   spent = None;
 }
 
-abbrev left : Session → Option Peer → ClientCore → Links → List (ℕ × ClientMsg) → List (ℕ × Answer) → List Item → Packets → List Note → Option Counter → SeatStepped
+abbrev left : Session → Option Peer → ClientCore → Links → List (ℕ × ClientMsg) → List (ℕ × Answer) → List Item → Packets → List Note → Option Counter → SessionStepped
 left s from c post up down journal packets notes spent = record {
-  seat = record { client = c; post = (post_due post false from).links; up = up; down = down };
+  state = record { client = c; post = (post_due post false from).links; up = up; down = down };
   journal = journal;
   packets = with_sent (post_due post false from).sent packets;
   outcome = record { who = Some (Client s); notes = notes; sent = numbers_from (length packets.sent) (post_due post false from).sent };
@@ -167,30 +168,30 @@ left s from c post up down journal packets notes spent = record {
 }
 
 -- what a run leaves that sent nothing
-pub ran_quiet : (s : Session) (from : Option Peer) (y : ClientRun) (c : ClientCore) (post : Links) (notes : List Note) (down : List (ℕ × Answer)) (seat : Seat) (journal : List Item) (packets : Packets)
+pub ran_quiet : (s : Session) (from : Option Peer) (y : ClientRun) (c : ClientCore) (post : Links) (notes : List Note) (down : List (ℕ × Answer)) (state : SessionState) (journal : List Item) (packets : Packets)
     → y.client ≡ c → y.notes ≡ notes → IsQuiet (client_begins c post []) y
-    → seat_ran s (client_replies from y) down seat journal packets ≡ left s from c post seat.up down journal packets notes None
-ran_quiet s from y c post notes down seat journal packets client noted q =
-    let up : seat.up ++ y.send ≡ seat.up = ap (λ (ms : List (ℕ × ClientMsg)). seat.up ++ ms) q.send ∙ append-nil seat.up in
+    → session_ran s (client_replies from y) down state journal packets ≡ left s from c post state.up down journal packets notes None
+ran_quiet s from y c post notes down state journal packets client noted q =
+    let up : state.up ++ y.send ≡ state.up = ap (λ (ms : List (ℕ × ClientMsg)). state.up ++ ms) q.send ∙ append-nil state.up in
     let items : journal ++ y.admitted ≡ journal = ap (λ (is : List Item). journal ++ is) q.admitted ∙ append-nil journal in
     λ i. left s from (client i) (q.post i) (up i) down (items i) packets (noted i) (q.spent i)
 
-heard_of : (s : Session) (now k : ℕ) (from : Option Peer) (fresh : ℕ) (js : List Joined) (answers : List Answer) (seat : Seat) (journal : List Item) (packets : Packets) → AreAnswers k js answers
-    → client_hears now s k from (record { fresh = fresh; joined = js }) seat journal packets ≡ seat_heard s now k from answers (heard_notes (record { fresh = fresh; joined = js }) now k answers seat.client) seat journal packets
-heard_of s now k from fresh [] [] seat journal packets h =
+heard_of : (s : Session) (now k : ℕ) (from : Option Peer) (fresh : ℕ) (js : List Joined) (answers : List Answer) (state : SessionState) (journal : List Item) (packets : Packets) → AreAnswers k js answers
+    → client_hears now s k from (record { fresh = fresh; joined = js }) state journal packets ≡ state_heard s now k from answers (heard_notes (record { fresh = fresh; joined = js }) now k answers state.client) state journal packets
+heard_of s now k from fresh [] [] state journal packets h =
     let gave : Heard = record { fresh = fresh; joined = [] } in
-    ran_quiet s from (client_begins seat.client seat.post (quiet_note gave ∷ [])) seat.client seat.post (quiet_note gave ∷ []) seat.down seat journal packets refl refl (record { post = refl; send = refl; admitted = refl; spent = refl })
-heard_of s now k from fresh [] (a ∷ answers) seat journal packets h = absurd h
-heard_of s now k from fresh (j ∷ js) [] seat journal packets h = absurd h
-heard_of s now k from fresh (j ∷ js) (a ∷ answers) seat journal packets h =
-    let x = client_begins seat.client seat.post [] in
+    ran_quiet s from (client_begins state.client state.post (quiet_note gave ∷ [])) state.client state.post (quiet_note gave ∷ []) state.down state journal packets refl refl (record { post = refl; send = refl; admitted = refl; spent = refl })
+heard_of s now k from fresh [] (a ∷ answers) state journal packets h = absurd h
+heard_of s now k from fresh (j ∷ js) [] state journal packets h = absurd h
+heard_of s now k from fresh (j ∷ js) (a ∷ answers) state journal packets h =
+    let x = client_begins state.client state.post [] in
     let y = client_hears_each s now (Server k) (j ∷ js) x in
     let q = each_quiet s now (Server k) (j ∷ js) x in
-    let down = without_each (j ∷ js) (is_with k) seat.down in
-    ran_quiet s from y (heard_all now k (a ∷ answers) seat.client) seat.post (notes_all now k (a ∷ answers) seat.client) down seat journal packets
+    let down = without_each (j ∷ js) (is_with k) state.down in
+    ran_quiet s from y (heard_all now k (a ∷ answers) state.client) state.post (notes_all now k (a ∷ answers) state.client) down state journal packets
     (each_client s now k (j ∷ js) (a ∷ answers) x h) (each_notes s now k (j ∷ js) (a ∷ answers) x h) (record { post = q.post; send = q.send; admitted = q.admitted; spent = q.spent })
-    ∙ ap (λ (ms : List (ℕ × Answer)). left s from (heard_all now k (a ∷ answers) seat.client) seat.post seat.up ms journal packets (notes_all now k (a ∷ answers) seat.client) None) (gone_alike k (j ∷ js) (a ∷ answers) (is_with k) seat.down h)
+    ∙ ap (λ (ms : List (ℕ × Answer)). left s from (heard_all now k (a ∷ answers) state.client) state.post state.up ms journal packets (notes_all now k (a ∷ answers) state.client) None) (gone_alike k (j ∷ js) (a ∷ answers) (is_with k) state.down h)
 
-pub heard_is : (s : Session) (now k : ℕ) (from : Option Peer) (h : Heard) (answers : List Answer) (seat : Seat) (journal : List Item) (packets : Packets) → AreAnswers k h.joined answers
-    → client_hears now s k from h seat journal packets ≡ seat_heard s now k from answers (heard_notes h now k answers seat.client) seat journal packets
-heard_is s now k from h answers seat journal packets of = heard_of s now k from h.fresh h.joined answers seat journal packets of
+pub heard_is : (s : Session) (now k : ℕ) (from : Option Peer) (h : Heard) (answers : List Answer) (state : SessionState) (journal : List Item) (packets : Packets) → AreAnswers k h.joined answers
+    → client_hears now s k from h state journal packets ≡ state_heard s now k from answers (heard_notes h now k answers state.client) state journal packets
+heard_is s now k from h answers state journal packets of = heard_of s now k from h.fresh h.joined answers state journal packets of

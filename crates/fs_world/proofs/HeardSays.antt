@@ -23,10 +23,10 @@ use Rattle.fs_client.proofs.Refused.{answers_tell}
 use Rattle.fs_serial.specs.Cluster.{is_with}
 use Rattle.fs_serial.proofs.Lists.SetAt.{In_without}
 use Rattle.fs_world.specs.Over.{AllCaused, Said, all_said, said_in}
-use Rattle.fs_world.specs.Served.{Seats}
-use Rattle.fs_world.specs.declared.seat.Seat.{Seat}
-use Rattle.fs_world.proofs.HeardEach.{AreNext, heard_notes, notes_all, seat_after}
-use Rattle.fs_world.proofs.LinkedSeats.{got_here, put_again}
+use Rattle.fs_world.specs.Served.{SessionStates}
+use Rattle.fs_world.specs.declared.servers.session_state.SessionState.{SessionState}
+use Rattle.fs_world.proofs.HeardEach.{AreNext, heard_notes, notes_all, session_after}
+use Rattle.fs_world.proofs.LinkedStates.{got_here, put_again}
 use Rattle.fs_world.proofs.Said.{AreKnown, IsKnown, IsNoted, WasGiven, all_more, caused_append, heard_more, known_put, note_caused, note_heard}
 
 -- ## What it notes of an answer, a server gave
@@ -54,63 +54,65 @@ hear_noted before s from a c g = elim (fits from c.exchange a c) as (λ b. IsNot
 -- ## What is said of it
 
 -- what it says is caused, and what stands then is known
-pub record Says (before new : List Said) (seats : Seats) : Type 0 where
+pub record Says (before new : List Said) (sessions : SessionStates) : Type 0 where
   pub caused : AllCaused before new
-  pub known : AreKnown (before ++ new) seats
+  pub known : AreKnown (before ++ new) sessions
 
 -- the client hears the next answer
-next_says : (before : List Said) (seats : Seats) (h : AreKnown before seats) (now : ℕ) (from : Option Peer) (s : Session) (seat : Seat) (at : get seats s.0 ≡ Some seat) (k : ℕ) (post : Links) (a : Answer) → find (is_with k) seat.down ≡ Some (k, a)
-    → Says before (all_said from (Some (Client s)) (note.Client (answer_plan seat.client now k a).out.note ∷ [])) (insert seats s.0 (seat_after now k (a ∷ []) post seat))
-next_says before seats h now from s seat at k post a first =
-    let p = answer_plan seat.client now k a in
+next_says : (before : List Said) (sessions : SessionStates) (h : AreKnown before sessions) (now : ℕ) (from : Option Peer) (s : Session) (state : SessionState) (at : get sessions s.0 ≡ Some state) (k : ℕ) (post : Links) (a : Answer) → find (is_with k) state.down ≡ Some (k, a)
+    → Says before (all_said from (Some (Client s)) (note.Client (answer_plan state.client now k a).out.note ∷ [])) (insert sessions s.0 (session_after now k (a ∷ []) post state))
+next_says before sessions h now from s state at k post a first =
+    let p = answer_plan state.client now k a in
     let new = all_said from (Some (Client s)) (note.Client p.out.note ∷ []) in
-    let here : IsKnown before s seat = h s seat at in
-    let given : WasGiven before s a = here.coming (k, a) (found (is_with k) seat.down (k, a) first).0 in
+    let here : IsKnown before s state = h s state at in
+    let given : WasGiven before s a = here.coming (k, a) (found (is_with k) state.down (k, a) first).0 in
     record {
-      caused = note_caused before from s p.out.note (hear_noted before s k a (begun now seat.client) given);
-      known = known_put (before ++ new) seats s (seat_after now k (a ∷ []) post seat) (all_more before new seats h) (record {
-        over = λ n e. note_heard before from s p.out.note seat.client.over here.over n (sym (answers_tell seat.client now k a) ∙ e);
-        coming = λ m i. (all_more before new seats h s seat at).coming m (In_without (is_with k) seat.down m i);
+      caused = note_caused before from s p.out.note (hear_noted before s k a (begun now state.client) given);
+      known = known_put (before ++ new) sessions s (session_after now k (a ∷ []) post state) (all_more before new sessions h) (record {
+        over = λ n e. note_heard before from s p.out.note state.client.over here.over n (sym (answers_tell state.client now k a) ∙ e);
+        coming = λ m i. (all_more before new sessions h s state at).coming m (In_without (is_with k) state.down m i);
       });
     }
 
 -- it hears none
-none_says : (before : List Said) (seats : Seats) (h : AreKnown before seats) (now : ℕ) (s : Session) (seat : Seat) (at : get seats s.0 ≡ Some seat) (k : ℕ) (post : Links) → Says before [] (insert seats s.0 (seat_after now k [] post seat))
-none_says before seats h now s seat at k post =
-    let here : IsKnown before s seat = h s seat at in
+none_says : (before : List Said) (sessions : SessionStates) (h : AreKnown before sessions) (now : ℕ) (s : Session) (state : SessionState) (at : get sessions s.0 ≡ Some state) (k : ℕ) (post : Links) → Says before [] (insert sessions s.0 (session_after now k [] post state))
+none_says before sessions h now s state at k post =
+    let here : IsKnown before s state = h s state at in
     record {
       caused = tt;
-      known = known_put (before ++ []) seats s (seat_after now k [] post seat) (all_more before [] seats h) (record {
+      known = known_put (before ++ []) sessions s (session_after now k [] post state) (all_more before [] sessions h) (record {
         over = λ n e. heard_more before [] s n (here.over n e);
-        coming = λ m i. (all_more before [] seats h s seat at).coming m i;
+        coming = λ m i. (all_more before [] sessions h s state at).coming m i;
       });
     }
 
 -- it hears one after another
-all_says : (answers : List Answer) (before : List Said) (seats : Seats) (h : AreKnown before seats) (now : ℕ) (from : Option Peer) (s : Session) (seat : Seat) (at : get seats s.0 ≡ Some seat) (k : ℕ) (post : Links) → AreNext k answers seat.down
-    → Says before (all_said from (Some (Client s)) (notes_all now k answers seat.client)) (insert seats s.0 (seat_after now k answers post seat))
-all_says [] before seats h now from s seat at k post next = none_says before seats h now s seat at k post
-all_says (a ∷ answers) before seats h now from s seat at k post next =
-    let note_of : Note = note.Client (answer_plan seat.client now k a).out.note in
+all_says : (answers : List Answer) (before : List Said) (sessions : SessionStates) (h : AreKnown before sessions) (now : ℕ) (from : Option Peer) (s : Session) (state : SessionState) (at : get sessions s.0 ≡ Some state) (k : ℕ) (post : Links) → AreNext k answers state.down
+    → Says before (all_said from (Some (Client s)) (notes_all now k answers state.client)) (insert sessions s.0 (session_after now k answers post state))
+all_says [] before sessions h now from s state at k post next = none_says before sessions h now s state at k post
+all_says (a ∷ answers) before sessions h now from s state at k post next =
+    let note_of : Note = note.Client (answer_plan state.client now k a).out.note in
     let who : Option Peer = Some (Client s) in
     let new = all_said from who (note_of ∷ []) in
-    let one = seat_after now k (a ∷ []) post seat in
-    let all = seat_after now k (a ∷ answers) post seat in
+    let one = session_after now k (a ∷ []) post state in
+    let all = session_after now k (a ∷ answers) post state in
     let more = all_said from who (notes_all now k answers one.client) in
-    let first = next_says before seats h now from s seat at k post a next.0 in
-    let then = all_says answers (before ++ new) (insert seats s.0 one) first.known now from s one (got_here seats s one) k post next.1 in
-    subst (λ (said : List Said). Says before said (insert seats s.0 all)) (ap (λ (said : List Said). said ++ more) (append-nil (said_in from who note_of)))
-    (subst (λ (m : Seats). Says before (new ++ more) m) (put_again seats s one all) (record {
+    let first = next_says before sessions h now from s state at k post a next.0 in
+    let then =
+    all_says answers (before ++ new) (insert sessions s.0 one) first.known now from s one (got_here sessions s one) k post next.1 in
+    subst (λ (said : List Said). Says before said (insert sessions s.0 all)) (ap (λ (said : List Said). said ++ more) (append-nil (said_in from who note_of)))
+    (subst (λ (m : SessionStates). Says before (new ++ more) m) (put_again sessions s one all) (record {
       caused = caused_append before new more first.caused then.caused;
-      known = subst (λ (said : List Said). AreKnown said (insert (insert seats s.0 one) s.0 all)) (append_assoc before new more) then.known;
+      known =
+          subst (λ (said : List Said). AreKnown said (insert (insert sessions s.0 one) s.0 all)) (append_assoc before new more) then.known;
     }))
 
 -- of what a packet gave
-pub heard_says : (before : List Said) (seats : Seats) (h : AreKnown before seats) (now : ℕ) (from : Option Peer) (s : Session) (seat : Seat) (at : get seats s.0 ≡ Some seat) (k : ℕ) (post : Links) (x : Heard) (answers : List Answer) → AreNext k answers seat.down
-    → Says before (all_said from (Some (Client s)) (heard_notes x now k answers seat.client)) (insert seats s.0 (seat_after now k answers post seat))
-heard_says before seats h now from s seat at k post x [] next =
-    elim (x.fresh == 0) as (λ b. Says before (all_said from (Some (Client s)) (cond b note.None note.Part ∷ [])) (insert seats s.0 (seat_after now k [] post seat))) [
-      | true ↦ none_says before seats h now s seat at k post
-      | false ↦ none_says before seats h now s seat at k post
+pub heard_says : (before : List Said) (sessions : SessionStates) (h : AreKnown before sessions) (now : ℕ) (from : Option Peer) (s : Session) (state : SessionState) (at : get sessions s.0 ≡ Some state) (k : ℕ) (post : Links) (x : Heard) (answers : List Answer) → AreNext k answers state.down
+    → Says before (all_said from (Some (Client s)) (heard_notes x now k answers state.client)) (insert sessions s.0 (session_after now k answers post state))
+heard_says before sessions h now from s state at k post x [] next =
+    elim (x.fresh == 0) as (λ b. Says before (all_said from (Some (Client s)) (cond b note.None note.Part ∷ [])) (insert sessions s.0 (session_after now k [] post state))) [
+      | true ↦ none_says before sessions h now s state at k post
+      | false ↦ none_says before sessions h now s state at k post
     ]
-heard_says before seats h now from s seat at k post x (a ∷ answers) next = all_says (a ∷ answers) before seats h now from s seat at k post next
+heard_says before sessions h now from s state at k post x (a ∷ answers) next = all_says (a ∷ answers) before sessions h now from s state at k post next

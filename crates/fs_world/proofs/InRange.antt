@@ -19,13 +19,13 @@ use Rattle.fs_serial.specs.declared.in_flight.InFlight.{InFlight}
 use Rattle.fs_serial.proofs.Grants.RowKinds.{In-kept}
 use Rattle.fs_window.specs.Peers.{same_peer}
 use Rattle.fs_window.proofs.Lists.{some_is}
-use Rattle.fs_world.specs.Linked.{FitsDown, FitsUp, HasJoined, IsLinked, IsWritten, downs_of, flying_between, seat_post, ups_of}
-use Rattle.fs_world.specs.Served.{Seats, up_after, with_down, with_down_at, with_downs}
+use Rattle.fs_world.specs.Linked.{FitsDown, FitsUp, HasJoined, IsLinked, IsWritten, downs_of, flying_between, state_post, ups_of}
+use Rattle.fs_world.specs.Served.{SessionStates, up_after, with_down, with_down_at, with_downs}
 use Rattle.fs_world.specs.Within.{AllInRange, IsInRange}
-use Rattle.fs_world.specs.declared.seat.Seat.{Seat}
-use Rattle.fs_world.specs.declared.served.Served.{Served}
+use Rattle.fs_world.specs.declared.servers.session_state.SessionState.{SessionState}
+use Rattle.fs_world.specs.declared.servers.world.Served.{Served}
 use Rattle.fs_world.proofs.LinkedFirst.{posts_there}
-use Rattle.fs_world.proofs.LinkedSeats.{got_here, got_there, session_is}
+use Rattle.fs_world.proofs.LinkedStates.{got_here, got_there, session_is}
 use Rattle.fs_world.proofs.LinkedServed.{different}
 use Rattle.fs_world.proofs.NamedServers.{AreSent, IsSent}
 use Rattle.fs_world.proofs.SeenSends.{down_joined}
@@ -44,21 +44,24 @@ all_of P (y ∷ ys) f = (f y (inl refl), all_of P ys (λ x i. f x (inr i)))
 -- ## What the links carry
 
 module _ (w : Served) (h : IsLinked w) where
-  ups_fit : (s : Session) (seat : Seat) (m : ℕ × ClientMsg) → get w.seats s.0 ≡ Some seat → In m seat.up → IsInRange (msg.Client m.1)
-  ups_fit s seat m at i =
-      let q = posts_there w h m.0 ((h.seats s seat at).up m i) in
-      let way = (h.ties.pairs (Client s) (Server m.0) seat.post q.0 refl (ap seat_post at) q.1).way in
-      each_of IsInRange (ups_of m.0 (get w.seats s.0)) way.fits (msg.Client m.1)
-      (subst (λ (o : Option Seat). In (msg.Client m.1) (ups_of m.0 o)) (sym at)
-      (In-mapped (λ (x : ℕ × ClientMsg). msg.Client x.1) m (filter (is_with m.0) seat.up) (In-kept (is_with m.0) m seat.up i (itself m.0))))
+  ups_fit : (s : Session) (state : SessionState) (m : ℕ × ClientMsg) → get w.sessions s.0 ≡ Some state → In m state.up
+      → IsInRange (msg.Client m.1)
+  ups_fit s state m at i =
+      let q = posts_there w h m.0 ((h.sessions s state at).up m i) in
+      let way = (h.ties.pairs (Client s) (Server m.0) state.post q.0 refl (ap state_post at) q.1).way in
+      each_of IsInRange (ups_of m.0 (get w.sessions s.0)) way.fits (msg.Client m.1)
+      (subst (λ (o : Option SessionState). In (msg.Client m.1) (ups_of m.0 o)) (sym at)
+      (In-mapped (λ (x : ℕ × ClientMsg). msg.Client x.1) m (filter (is_with m.0) state.up)
+      (In-kept (is_with m.0) m state.up i (itself m.0))))
 
-  downs_fit : (s : Session) (seat : Seat) (m : ℕ × Answer) → get w.seats s.0 ≡ Some seat → In m seat.down → IsInRange (msg.Answer m.1)
-  downs_fit s seat m at i =
-      let q = posts_there w h m.0 ((h.seats s seat at).down m i).0 in
-      let way = (h.ties.pairs (Server m.0) (Client s) q.0 seat.post refl q.1 (ap seat_post at)).way in
-      each_of IsInRange (downs_of m.0 (get w.seats s.0)) way.fits (msg.Answer m.1)
-      (subst (λ (o : Option Seat). In (msg.Answer m.1) (downs_of m.0 o)) (sym at)
-      (In-mapped (λ (x : ℕ × Answer). msg.Answer x.1) m (filter (is_with m.0) seat.down) (In-kept (is_with m.0) m seat.down i (itself m.0))))
+  downs_fit : (s : Session) (state : SessionState) (m : ℕ × Answer) → get w.sessions s.0 ≡ Some state → In m state.down
+      → IsInRange (msg.Answer m.1)
+  downs_fit s state m at i =
+      let q = posts_there w h m.0 ((h.sessions s state at).down m i).0 in
+      let way = (h.ties.pairs (Server m.0) (Client s) q.0 state.post refl q.1 (ap state_post at)).way in
+      each_of IsInRange (downs_of m.0 (get w.sessions s.0)) way.fits (msg.Answer m.1)
+      (subst (λ (o : Option SessionState). In (msg.Answer m.1) (downs_of m.0 o)) (sym at)
+      (In-mapped (λ (x : ℕ × Answer). msg.Answer x.1) m (filter (is_with m.0) state.down) (In-kept (is_with m.0) m state.down i (itself m.0))))
 
   flying_fits : (f : InFlight) → In f w.in_flight → IsInRange (msg.Peer f.message)
   flying_fits f i =
@@ -79,60 +82,61 @@ written : (m : Msg) → IsInRange m → IsWritten m
 written m r = record { short = r.short; fits = λ e. r.fits }
 
 -- by a client
-pub up_written : (w : Served) (s : Session) (seat : Seat) (send : Option (ℕ × ClientMsg)) (up : List (ℕ × ClientMsg)) → get w.seats s.0 ≡ Some seat → seat.up ≡ up_after send up → AllInRange w → FitsUp send
-up_written w s seat None up at is r = tt
-up_written w s seat (Some m) up at is r = written (msg.Client m.1) (r.up s seat m at (subst (λ (ms : List (ℕ × ClientMsg)). In m ms) (sym is) (In-last up m)))
+pub up_written : (w : Served) (s : Session) (state : SessionState) (send : Option (ℕ × ClientMsg)) (up : List (ℕ × ClientMsg)) → get w.sessions s.0 ≡ Some state → state.up ≡ up_after send up → AllInRange w → FitsUp send
+up_written w s state None up at is r = tt
+up_written w s state (Some m) up at is r = written (msg.Client m.1) (r.up s state m at (subst (λ (ms : List (ℕ × ClientMsg)). In m ms) (sym is) (In-last up m)))
 
 -- an answer is on its way to the session
-record HasDown (seats : Seats) (s : Session) (y : ℕ × Answer) : Type 0 where
-  seat : Seat
-  at : get seats s.0 ≡ Some seat
-  among : In y seat.down
+record HasDown (sessions : SessionStates) (s : Session) (y : ℕ × Answer) : Type 0 where
+  state : SessionState
+  at : get sessions s.0 ≡ Some state
+  among : In y state.down
 
-down_put : (seats : Seats) (t : Session) (old : Seat) (x y : ℕ × Answer) (s : Session) → get seats t.0 ≡ Some old → HasDown seats s y → HasDown (insert seats t.0 (record old { down = old.down ++ x ∷ [] })) s y
-down_put seats t old x y s at h = either (same_peer (Client s) (Client t)) refl
+down_put : (sessions : SessionStates) (t : Session) (old : SessionState) (x y : ℕ × Answer) (s : Session) → get sessions t.0 ≡ Some old → HasDown sessions s y → HasDown (insert sessions t.0 (record old { down = old.down ++ x ∷ [] })) s y
+down_put sessions t old x y s at h = either (same_peer (Client s) (Client t)) refl
   where
-    new : Seat
+    new : SessionState
     new = record old { down = old.down ++ x ∷ [] }
 
-    either : (b : Bool) → same_peer (Client s) (Client t) ≡ b → HasDown (insert seats t.0 new) s y
+    either : (b : Bool) → same_peer (Client s) (Client t) ≡ b → HasDown (insert sessions t.0 new) s y
     either true e =
         let is : s ≡ t = session_is s t e in
-        let same : h.seat ≡ old = some_is h.seat old (sym h.at ∙ ap (λ (z : Session). get seats z.0) is ∙ at) in
+        let same : h.state ≡ old = some_is h.state old (sym h.at ∙ ap (λ (z : Session). get sessions z.0) is ∙ at) in
         record {
-          seat = new;
-          at = ap (λ (z : Session). get (insert seats t.0 new) z.0) is ∙ got_here seats t new;
-          among = In-front y old.down (x ∷ []) (subst (λ (z : Seat). In y z.down) same h.among);
+          state = new;
+          at = ap (λ (z : Session). get (insert sessions t.0 new) z.0) is ∙ got_here sessions t new;
+          among = In-front y old.down (x ∷ []) (subst (λ (z : SessionState). In y z.down) same h.among);
         }
-    either false e = record { seat = h.seat; at = got_there seats t s new e ∙ h.at; among = h.among }
+    either false e = record { state = h.state; at = got_there sessions t s new e ∙ h.at; among = h.among }
 
-one_stays : (k : ℕ) (m : Peer × Msg) (seats : Seats) (s : Session) (y : ℕ × Answer) → HasDown seats s y → HasDown (with_down k m seats) s y
-one_stays k (Client t, msg.Answer a) seats s y h = at (get seats t.0) refl
+one_stays : (k : ℕ) (m : Peer × Msg) (sessions : SessionStates) (s : Session) (y : ℕ × Answer) → HasDown sessions s y
+    → HasDown (with_down k m sessions) s y
+one_stays k (Client t, msg.Answer a) sessions s y h = at (get sessions t.0) refl
   where
-    at : (o : Option Seat) → get seats t.0 ≡ o → HasDown (with_down_at o t.0 (k, a) seats) s y
+    at : (o : Option SessionState) → get sessions t.0 ≡ o → HasDown (with_down_at o t.0 (k, a) sessions) s y
     at None e = h
-    at (Some old) e = down_put seats t old (k, a) y s e h
-one_stays k (Client t, msg.Client m) seats s y h = h
-one_stays k (Client t, msg.Peer m) seats s y h = h
-one_stays k (Server to, m) seats s y h = h
+    at (Some old) e = down_put sessions t old (k, a) y s e h
+one_stays k (Client t, msg.Client m) sessions s y h = h
+one_stays k (Client t, msg.Peer m) sessions s y h = h
+one_stays k (Server to, m) sessions s y h = h
 
-all_stay : (k : ℕ) (xs : List (Peer × Msg)) (seats : Seats) (s : Session) (y : ℕ × Answer) → HasDown seats s y → HasDown (with_downs k xs seats) s y
-all_stay k [] seats s y h = h
-all_stay k (x ∷ xs) seats s y h = all_stay k xs (with_down k x seats) s y (one_stays k x seats s y h)
+all_stay : (k : ℕ) (xs : List (Peer × Msg)) (sessions : SessionStates) (s : Session) (y : ℕ × Answer) → HasDown sessions s y → HasDown (with_downs k xs sessions) s y
+all_stay k [] sessions s y h = h
+all_stay k (x ∷ xs) sessions s y h = all_stay k xs (with_down k x sessions) s y (one_stays k x sessions s y h)
 
-one_goes : (k : ℕ) (s : Session) (a : Answer) (seats : Seats) → HasJoined seats s → HasDown (with_down k (Client s, msg.Answer a) seats) s (k, a)
-one_goes k s a seats j =
-    let seat : Seat = j.0 in
-    let new : Seat = record seat { down = seat.down ++ (k, a) ∷ [] } in
-    subst (λ (o : Option Seat). HasDown (with_down_at o s.0 (k, a) seats) s (k, a)) (sym j.1)
-    (record { seat = new; at = got_here seats s new; among = In-last seat.down (k, a) })
+one_goes : (k : ℕ) (s : Session) (a : Answer) (sessions : SessionStates) → HasJoined sessions s → HasDown (with_down k (Client s, msg.Answer a) sessions) s (k, a)
+one_goes k s a sessions j =
+    let state : SessionState = j.0 in
+    let new : SessionState = record state { down = state.down ++ (k, a) ∷ [] } in
+    subst (λ (o : Option SessionState). HasDown (with_down_at o s.0 (k, a) sessions) s (k, a)) (sym j.1)
+    (record { state = new; at = got_here sessions s new; among = In-last state.down (k, a) })
 
-answers_go : (k : ℕ) (xs : List (Peer × Msg)) (seats : Seats) (s : Session) (a : Answer) → HasJoined seats s → In (Client s, msg.Answer a) xs → HasDown (with_downs k xs seats) s (k, a)
-answers_go k [] seats s a j i = absurd i
-answers_go k (x ∷ xs) seats s a j (inl e) =
-    subst (λ (z : Peer × Msg). HasDown (with_downs k xs (with_down k z seats)) s (k, a)) e
-    (all_stay k xs (with_down k (Client s, msg.Answer a) seats) s (k, a) (one_goes k s a seats j))
-answers_go k (x ∷ xs) seats s a j (inr i) = answers_go k xs (with_down k x seats) s a (down_joined k x seats s j) i
+answers_go : (k : ℕ) (xs : List (Peer × Msg)) (sessions : SessionStates) (s : Session) (a : Answer) → HasJoined sessions s → In (Client s, msg.Answer a) xs → HasDown (with_downs k xs sessions) s (k, a)
+answers_go k [] sessions s a j i = absurd i
+answers_go k (x ∷ xs) sessions s a j (inl e) =
+    subst (λ (z : Peer × Msg). HasDown (with_downs k xs (with_down k z sessions)) s (k, a)) e
+    (all_stay k xs (with_down k (Client s, msg.Answer a) sessions) s (k, a) (one_goes k s a sessions j))
+answers_go k (x ∷ xs) sessions s a j (inr i) = answers_go k xs (with_down k x sessions) s a (down_joined k x sessions s j) i
 
 more_fly : (k : ℕ) (x : Peer × Msg) (xs : List (Peer × Msg)) (f : InFlight) → In f (in_flight_from k xs) → In f (in_flight_from k (x ∷ xs))
 more_fly k (Server to, msg.Peer m) xs f i = inr i
@@ -148,14 +152,14 @@ peers_go k (x ∷ xs) to m (inl e) =
 peers_go k (x ∷ xs) to m (inr i) = more_fly k x xs (record { from = k; to = to; message = m }) (peers_go k xs to m i)
 
 -- by a server
-pub down_written : (servers : ℕ) (seats before : Seats) (k : ℕ) (xs : List (Peer × Msg)) (in_flight : List InFlight) (w : Served) → AreSent servers seats k xs → ((t : Session) → HasJoined seats t → HasJoined before t)
-    → w.seats ≡ with_downs k xs before → w.in_flight ≡ in_flight ++ in_flight_from k xs → AllInRange w → FitsDown xs
-down_written servers seats before k xs in_flight w sent joined seats_are flying_is r = all_of (λ (x : Peer × Msg). IsWritten x.1) xs (λ x i. one x i (each_of (IsSent servers seats k) xs sent x i))
+pub down_written : (servers : ℕ) (sessions before : SessionStates) (k : ℕ) (xs : List (Peer × Msg)) (in_flight : List InFlight) (w : Served) → AreSent servers sessions k xs → ((t : Session) → HasJoined sessions t → HasJoined before t)
+    → w.sessions ≡ with_downs k xs before → w.in_flight ≡ in_flight ++ in_flight_from k xs → AllInRange w → FitsDown xs
+down_written servers sessions before k xs in_flight w sent joined sessions_are flying_is r = all_of (λ (x : Peer × Msg). IsWritten x.1) xs (λ x i. one x i (each_of (IsSent servers sessions k) xs sent x i))
   where
-    one : (x : Peer × Msg) → In x xs → IsSent servers seats k x → IsWritten x.1
+    one : (x : Peer × Msg) → In x xs → IsSent servers sessions k x → IsWritten x.1
     one (Client s, msg.Answer a) i q =
         let d = answers_go k xs before s a (joined s q.0) i in
-        written (msg.Answer a) (r.down s d.seat (k, a) (ap (λ (m : Seats). get m s.0) seats_are ∙ d.at) d.among)
+        written (msg.Answer a) (r.down s d.state (k, a) (ap (λ (m : SessionStates). get m s.0) sessions_are ∙ d.at) d.among)
     one (Server to, msg.Peer m) i q =
         let f : InFlight = record { from = k; to = to; message = m } in
         written (msg.Peer m) (r.in_flight f (subst (λ (fs : List InFlight). In f fs) (sym flying_is) (In-behind f in_flight (in_flight_from k xs) (peers_go k xs to m i))))

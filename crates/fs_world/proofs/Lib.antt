@@ -2,11 +2,11 @@ pub mod Creates
 mod AllDowns
 mod Popped
 pub mod Marks
-pub mod SeatMaps
+pub mod SessionMaps
 pub mod Spending
 pub mod SentNumbers
 mod PoppedFirst
-mod AtSeat
+mod AtSession
 mod AtServer
 mod AtHearing
 mod GoesAlone
@@ -20,7 +20,7 @@ pub mod HeardEach
 pub mod HeardCalls
 pub mod LinkedPair
 pub mod LinkedChange
-pub mod LinkedSeats
+pub mod LinkedStates
 pub mod LinkedServed
 pub mod LinkedFirst
 pub mod LinkedSession
@@ -42,7 +42,7 @@ pub mod SerialLaws
 pub mod Seen
 pub mod SeenSends
 pub mod Coming
-pub mod Told
+pub mod RepliesGiven
 pub mod ServedHolds
 pub mod ServerHolds
 pub mod SessionSteps

@@ -24,9 +24,9 @@ use Rattle.fs_msg.specs.Ranges.{FitsMessage}
 use Rattle.fs_msg.specs.Spelling.{message}
 use Rattle.fs_msg.specs.declared.msg.Msg.{Msg}
 use Rattle.fs_serial.specs.declared.in_flight.InFlight.{InFlight}
-use Rattle.fs_world.specs.Linked.{AreTied, GoesBetween, AreFirstOf, IsPair, IsPost, IsThere, between, downs_of, flying_between, post_of, seat_post, ups_of}
-use Rattle.fs_world.specs.Served.{Seats, link_width}
-use Rattle.fs_world.specs.declared.served.Served.{Served}
+use Rattle.fs_world.specs.Linked.{AreTied, GoesBetween, AreFirstOf, IsPair, IsPost, IsThere, between, downs_of, flying_between, post_of, state_post, ups_of}
+use Rattle.fs_world.specs.Served.{SessionStates, link_width}
+use Rattle.fs_world.specs.declared.servers.world.Served.{Served}
 use Rattle.fs_world.proofs.LinkedPair.{BothWays, GoesElsewhere, IsDue, both_accepted, both_due, both_new, both_pushed, first_joined, pair_elsewhere, rest_of}
 
 -- ## Actors
@@ -129,16 +129,16 @@ module _ (a : Peer) (p : Links) (w v : Served) (more : List Sent) (c : Changes a
   }
 
 -- worlds with the same links, and the same messages and packets on their way
-pub tied_alike : (w v : Served) → v.posts ≡ w.posts → v.seats ≡ w.seats → v.in_flight ≡ w.in_flight → v.packets.sent ≡ w.packets.sent → AreTied w → AreTied v
-tied_alike w v posts seats in_flight sent h = record { posts = posts_of; pairs = pairs_of; alone = alone_of; between = λ x i. goes x (h.between x (subst (λ (ps : List Sent). In x ps) sent i)) }
+pub tied_alike : (w v : Served) → v.posts ≡ w.posts → v.sessions ≡ w.sessions → v.in_flight ≡ w.in_flight → v.packets.sent ≡ w.packets.sent → AreTied w → AreTied v
+tied_alike w v posts sessions in_flight sent h = record { posts = posts_of; pairs = pairs_of; alone = alone_of; between = λ x i. goes x (h.between x (subst (λ (ps : List Sent). In x ps) sent i)) }
   where
     post_same : (a : Peer) → post_of v a ≡ post_of w a
     post_same (Server k) = ap (λ (ps : List Links). slice_get ps k) posts
-    post_same (Client s) = ap (λ (m : Seats). seat_post (get m s.0)) seats
+    post_same (Client s) = ap (λ (m : SessionStates). state_post (get m s.0)) sessions
 
     way_same : (a b : Peer) → between v a b ≡ between w a b
-    way_same (Client s) (Server k) = ap (λ (m : Seats). ups_of k (get m s.0)) seats
-    way_same (Server k) (Client s) = ap (λ (m : Seats). downs_of k (get m s.0)) seats
+    way_same (Client s) (Server k) = ap (λ (m : SessionStates). ups_of k (get m s.0)) sessions
+    way_same (Server k) (Client s) = ap (λ (m : SessionStates). downs_of k (get m s.0)) sessions
     way_same (Server j) (Server k) = ap (λ (fs : List InFlight). flying_between j k fs) in_flight
     way_same (Client s) (Client t) = refl
 

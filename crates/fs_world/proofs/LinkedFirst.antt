@@ -15,15 +15,15 @@ use Rattle.fs_serial.specs.Cluster.{first_servers}
 use Rattle.fs_serial.specs.declared.in_flight.InFlight.{InFlight}
 use Rattle.fs_server.specs.Server.{first_server}
 use Rattle.fs_server.specs.declared.state.Server.{Server as Core}
-use Rattle.fs_world.specs.Linked.{AreTied, HasJoined, IsCarried, IsLinked, IsPair, IsPost, IsSeated, IsServed, between, downs_of, post_of, seat_post, ups_of, BringsParcel}
-use Rattle.fs_world.specs.Packets.{with_told}
-use Rattle.fs_world.specs.Served.{Seats, first_posts, first_seat, first_served, join_at, link_width}
-use Rattle.fs_world.specs.declared.seat.Seat.{Seat}
-use Rattle.fs_world.specs.declared.served.Served.{Served}
+use Rattle.fs_world.specs.Linked.{AreTied, HasJoined, IsCarried, IsLinked, IsPair, IsPost, IsSoundState, IsServed, between, downs_of, post_of, state_post, ups_of, BringsParcel}
+use Rattle.fs_world.specs.Packets.{with_delivered}
+use Rattle.fs_world.specs.Served.{SessionStates, first_posts, first_session_state, first_served, join_at, link_width}
+use Rattle.fs_world.specs.declared.servers.session_state.SessionState.{SessionState}
+use Rattle.fs_world.specs.declared.servers.world.Served.{Served}
 use Rattle.fs_world.proofs.LinkedChange.{none_there, tied_alike}
 use Rattle.fs_world.proofs.LinkedLists.{one_more_there, one_there}
 use Rattle.fs_world.proofs.LinkedPair.{both_new}
-use Rattle.fs_world.proofs.LinkedSeats.{AtAll, all_put, seat_joins}
+use Rattle.fs_world.proofs.LinkedStates.{AtAll, all_put, session_joins}
 use Rattle.fs_world.proofs.NamedClients.{first_fine}
 pub use Rattle.fs_world.proofs.NamedClients.{answer_silent}
 use Rattle.fs_world.proofs.NamedServers.{first_served_core, in_range}
@@ -34,24 +34,26 @@ use Rattle.fs_msg.specs.declared.peer_msg.PeerMsg.TheVariants.{Parcel as OfParce
 
 -- ## Whoever has joined stays
 
-pub served_then : (servers : ℕ) (a b : Seats) (k : ℕ) (s : Core) → ((t : Session) → HasJoined a t → HasJoined b t) → IsServed servers a k s → IsServed servers b k s
+pub served_then : (servers : ℕ) (a b : SessionStates) (k : ℕ) (s : Core) → ((t : Session) → HasJoined a t → HasJoined b t) → IsServed servers a k s → IsServed servers b k s
 served_then servers a b k s g h = record { me = h.me; named = h.named; records = h.records; handles = h.handles; rows = λ row i. g row.session (h.rows row i) }
 
-pub brings_then : (a b : Seats) (m : PeerMsg) → ((t : Session) → HasJoined a t → HasJoined b t) → BringsParcel a m → BringsParcel b m
+pub brings_then : (a b : SessionStates) (m : PeerMsg) → ((t : Session) → HasJoined a t → HasJoined b t) → BringsParcel a m
+    → BringsParcel b m
 brings_then a b (OfParcel p) g h = record { each = h.each; handles = h.handles; rows = λ row i. g row.session (h.rows row i) }
 brings_then a b (Prepare m) g h = h
 brings_then a b (Vote m) g h = h
 brings_then a b (Decide m) g h = h
 brings_then a b (Done m) g h = h
 
-pub carried_then : (servers : ℕ) (a b : Seats) (f : InFlight) → ((t : Session) → HasJoined a t → HasJoined b t) → IsCarried servers a f → IsCarried servers b f
+pub carried_then : (servers : ℕ) (a b : SessionStates) (f : InFlight) → ((t : Session) → HasJoined a t → HasJoined b t) → IsCarried servers a f → IsCarried servers b f
 carried_then servers a b f g h = record { from = h.from; to = h.to; apart = h.apart; parcel = brings_then a b f.message g h.parcel }
 
-abbrev pub AllSeated : ℕ → Seats → Type 0
-AllSeated servers seats = AtAll (IsSeated servers) seats
+abbrev pub AllSoundStates : ℕ → SessionStates → Type 0
+AllSoundStates servers sessions = AtAll (IsSoundState servers) sessions
 
-pub readable_in : (servers : ℕ) (seats : Seats) → AllSeated servers seats → (s : Session) → HasJoined seats s → is_readable_session s ≡ true
-readable_in servers seats h s j = (h s j.0 j.1).number
+pub readable_in : (servers : ℕ) (sessions : SessionStates) → AllSoundStates servers sessions → (s : Session) → HasJoined sessions s
+    → is_readable_session s ≡ true
+readable_in servers sessions h s j = (h s j.0 j.1).number
 
 -- the links of each server that there is
 pub posts_there : (w : Served) → IsLinked w → (k : ℕ) → k < length w.servers → (q : Links) × (slice_get w.posts k ≡ Some q)
@@ -79,7 +81,7 @@ first_core (suc n) k skew term s h = elim (one_more_there (first_servers n skew 
 
 first_peer : (n skew term : ℕ) (a : Peer) (post : Links) → post_of (first_served n skew term) a ≡ Some post → post ≡ no_links a link_width
 first_peer n skew term (Server k) post e = first_post n k post e
-first_peer n skew term (Client s) post e = absurd (none_there post (sym e ∙ ap seat_post (get-empty nat_cmp s.0)))
+first_peer n skew term (Client s) post e = absurd (none_there post (sym e ∙ ap state_post (get-empty nat_cmp s.0)))
 
 first_between : (n skew term : ℕ) (a b : Peer) → between (first_served n skew term) a b ≡ []
 first_between n skew term (Client s) (Server k) = ap (ups_of k) (get-empty nat_cmp s.0)
@@ -99,8 +101,8 @@ first_tied n skew term = record {
   between = λ x i. absurd i;
 }
 
-no_seat : (seat : Seat) → ◌≡◌ {A = Option Seat} (Some seat) None → ⊥
-no_seat seat e = absurd (cc)
+no_state : (state : SessionState) → ◌≡◌ {A = Option SessionState} (Some state) None → ⊥
+no_state state e = absurd (cc)
 
 pub first_linked : (n skew term : ℕ) → 1 ≤ n → n ≤ SERVERS → IsLinked (first_served n skew term)
 first_linked n skew term some few =
@@ -111,44 +113,49 @@ first_linked n skew term some few =
       few = omega (arith, len);
       ties = first_tied n skew term;
       servers = λ k s e. subst (λ (m : ℕ). IsServed m empty k s) (sym len) (subst (λ (x : Core). IsServed n empty k x) (sym (first_core n k skew term s e)) (first_served_core n empty k skew term (omega arith)));
-      seats = λ s seat e. absurd (no_seat seat (sym e ∙ get-empty nat_cmp s.0));
+      sessions = λ s state e. absurd (no_state state (sym e ∙ get-empty nat_cmp s.0));
       in_flight = λ f i. absurd i;
     }
 
 -- ## A session joins
 
-first_seated : (servers : ℕ) (s : Session) (term : ℕ) → 0 < servers → is_readable_session s ≡ true → IsSeated servers s (first_seat term s)
-first_seated servers s term some readable =
+first_state_sound : (servers : ℕ) (s : Session) (term : ℕ) → 0 < servers → is_readable_session s ≡ true
+    → IsSoundState servers s (first_session_state term s)
+first_state_sound servers s term some readable =
     let c = first_fine servers s term some in
     record { number = readable; session = refl; log = c.log; hints = c.hints; up = λ m i. absurd i; down = λ m i. absurd i }
 
-joins : (w : Served) (s : Session) (o : Option Seat) → get w.seats s.0 ≡ o → is_readable_session s ≡ true → IsLinked w → IsLinked (join_at o s w).world
+joins : (w : Served) (s : Session) (o : Option SessionState) → get w.sessions s.0 ≡ o → is_readable_session s ≡ true → IsLinked w → IsLinked (join_at o s w).world
 joins w s None e readable h =
-    let seat = first_seat w.term s in
+    let state = first_session_state w.term s in
     let n = length w.servers in
     record {
       posts = h.posts;
       some = h.some;
       few = h.few;
-      ties = seat_joins w s w.term e h.ties;
-      servers = λ k c i. served_then n w.seats (insert w.seats s.0 seat) k c (λ t g. joined_still w.seats s t seat g) (h.servers k c i);
-      seats = all_put (IsSeated n) w.seats s seat (first_seated n s w.term (let some = h.some in omega arith) readable) h.seats;
-      in_flight = λ f i. carried_then n w.seats (insert w.seats s.0 seat) f (λ t g. joined_still w.seats s t seat g) (h.in_flight f i);
+      ties = session_joins w s w.term e h.ties;
+      servers =
+          λ k c i. served_then n w.sessions (insert w.sessions s.0 state) k c (λ t g. joined_still w.sessions s t state g)
+          (h.servers k c i);
+      sessions =
+          all_put (IsSoundState n) w.sessions s state (first_state_sound n s w.term (let some = h.some in omega arith) readable) h.sessions;
+      in_flight =
+          λ f i. carried_then n w.sessions (insert w.sessions s.0 state) f (λ t g. joined_still w.sessions s t state g) (h.in_flight f i);
     }
-joins w s (Some seat) e readable h = h
+joins w s (Some state) e readable h = h
 
-pub join_linked : (w : Served) (s : Session) → 1 ≤ s.0 → s.0 ≤ SESSIONS → IsLinked w → IsLinked (join_at (get w.seats s.0) s w).world
-join_linked w s some few h = joins w s (get w.seats s.0) refl (in_range s.0 1 SESSIONS some few) h
+pub join_linked : (w : Served) (s : Session) → 1 ≤ s.0 → s.0 ≤ SESSIONS → IsLinked w → IsLinked (join_at (get w.sessions s.0) s w).world
+join_linked w s some few h = joins w s (get w.sessions s.0) refl (in_range s.0 1 SESSIONS some few) h
 
 -- ## A mark at a packet
 
-pub mark_linked : (w : Served) (j : ℕ) → IsLinked w → IsLinked (record w { packets = with_told j w.packets })
+pub mark_linked : (w : Served) (j : ℕ) → IsLinked w → IsLinked (record w { packets = with_delivered j w.packets })
 mark_linked w j h = record {
   posts = h.posts;
   some = h.some;
   few = h.few;
-  ties = tied_alike w (record w { packets = with_told j w.packets }) refl refl refl refl h.ties;
+  ties = tied_alike w (record w { packets = with_delivered j w.packets }) refl refl refl refl h.ties;
   servers = h.servers;
-  seats = h.seats;
+  sessions = h.sessions;
   in_flight = h.in_flight;
 }

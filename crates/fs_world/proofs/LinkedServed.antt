@@ -27,15 +27,15 @@ use Rattle.fs_actor.specs.Actor.{is_full_down, is_full_for, with_pushed}
 use Rattle.fs_serial.specs.Cluster.{in_flight_from, is_between, is_with}
 use Rattle.fs_serial.specs.declared.in_flight.InFlight.{InFlight}
 use Rattle.fs_wire.specs.Readable.{is_readable_session}
-use Rattle.fs_world.specs.Linked.{AreTied, FitsDown, HasJoined, IsWritten, between, downs_of, flying_between, post_of, seat_post, ups_of}
+use Rattle.fs_world.specs.Linked.{AreTied, FitsDown, HasJoined, IsWritten, between, downs_of, flying_between, post_of, state_post, ups_of}
 use Rattle.fs_world.specs.Packets.{Packets, with_sent}
-use Rattle.fs_world.specs.Served.{Seats, ServerStepped, with_down, with_down_at, with_downs, with_server, without_each}
-use Rattle.fs_world.specs.declared.seat.Seat.{Seat}
-use Rattle.fs_world.specs.declared.served.Served.{Served}
+use Rattle.fs_world.specs.Served.{SessionStates, ServerStepped, with_down, with_down_at, with_downs, with_server, without_each}
+use Rattle.fs_world.specs.declared.servers.session_state.SessionState.{SessionState}
+use Rattle.fs_world.specs.declared.servers.world.Served.{Served}
 use Rattle.fs_world.proofs.LinkedChange.{Changes, IsHeard, peer_is, tied_accepted, tied_due, tied_pushed}
 use Rattle.fs_world.proofs.LinkedLists.{got_set, no_more, one_more}
 use Rattle.fs_world.proofs.LinkedPair.{rest_of}
-use Rattle.fs_world.proofs.LinkedSeats.{got_here, number_apart, others_taken, rest_taken, turned_apart, with_other}
+use Rattle.fs_world.proofs.LinkedStates.{got_here, number_apart, others_taken, rest_taken, turned_apart, with_other}
 use Rattle.fs_world.proofs.NamedServers.{AreSent, sent_readable}
 use Rattle.fs_world.proofs.SeenSends.{down_joined}
 
@@ -45,9 +45,9 @@ serving k x w = (with_server k x w).world
 
 -- what others than the server see is the same
 pub record Elsewhere (k : ℕ) (x y : ServerStepped) : Type 0 where
-  pub posts : (t : ℕ) → seat_post (get y.seats t) ≡ seat_post (get x.seats t)
-  pub ups : (j t : ℕ) → same_peer (Server j) (Server k) ≡ false → ups_of j (get y.seats t) ≡ ups_of j (get x.seats t)
-  pub downs : (j t : ℕ) → same_peer (Server j) (Server k) ≡ false → downs_of j (get y.seats t) ≡ downs_of j (get x.seats t)
+  pub posts : (t : ℕ) → state_post (get y.sessions t) ≡ state_post (get x.sessions t)
+  pub ups : (j t : ℕ) → same_peer (Server j) (Server k) ≡ false → ups_of j (get y.sessions t) ≡ ups_of j (get x.sessions t)
+  pub downs : (j t : ℕ) → same_peer (Server j) (Server k) ≡ false → downs_of j (get y.sessions t) ≡ downs_of j (get x.sessions t)
   pub parcels : (i j : ℕ) → same_peer (Server i) (Server k) ≡ false → same_peer (Server j) (Server k) ≡ false → flying_between i j y.in_flight ≡ flying_between i j x.in_flight
 
 -- servers with different numbers are not one
@@ -87,68 +87,68 @@ module _ (w : Served) (k : ℕ) (there : k < length w.posts) where
 
   -- ## What is due goes out
 
-  pub server_due : (x y : ServerStepped) (turn : Bool) (heard : Option Peer) → y.post ≡ (post_due x.post turn heard).links → y.packets ≡ with_sent (post_due x.post turn heard).sent x.packets → y.seats ≡ x.seats → y.in_flight ≡ x.in_flight → IsHeard (at x) (Server k) heard → AreTied (at x) → AreTied (at y)
-  server_due x y turn heard post sent seats in_flight of h =
+  pub server_due : (x y : ServerStepped) (turn : Bool) (heard : Option Peer) → y.post ≡ (post_due x.post turn heard).links → y.packets ≡ with_sent (post_due x.post turn heard).sent x.packets → y.sessions ≡ x.sessions → y.in_flight ≡ x.in_flight → IsHeard (at x) (Server k) heard → AreTied (at x) → AreTied (at y)
+  server_due x y turn heard post sent sessions in_flight of h =
       tied_due (Server k) x.post turn heard (at x) (at y) (server_post x) of
       (subst (λ (p : Links). Changes (Server k) p (at x) (at y) (post_due x.post turn heard).sent) post
       (server_changes x y (post_due x.post turn heard).sent (record {
-        posts = λ t. ap (λ (m : Seats). seat_post (get m t)) seats;
-        ups = λ j t f. ap (λ (m : Seats). ups_of j (get m t)) seats;
-        downs = λ j t f. ap (λ (m : Seats). downs_of j (get m t)) seats;
+        posts = λ t. ap (λ (m : SessionStates). state_post (get m t)) sessions;
+        ups = λ j t f. ap (λ (m : SessionStates). ups_of j (get m t)) sessions;
+        downs = λ j t f. ap (λ (m : SessionStates). downs_of j (get m t)) sessions;
         parcels = λ i j f g. ap (λ (fs : List InFlight). flying_between i j fs) in_flight;
       }) (ap (λ (p : Packets). p.sent) sent)))
       ways h
     where
       ways : (b c : Peer) → between (at y) b c ≡ between (at x) b c
-      ways (Client t) (Server j) = ap (λ (m : Seats). ups_of j (get m t.0)) seats
-      ways (Server j) (Client t) = ap (λ (m : Seats). downs_of j (get m t.0)) seats
+      ways (Client t) (Server j) = ap (λ (m : SessionStates). ups_of j (get m t.0)) sessions
+      ways (Server j) (Client t) = ap (λ (m : SessionStates). downs_of j (get m t.0)) sessions
       ways (Server i) (Server j) = ap (λ (fs : List InFlight). flying_between i j fs) in_flight
       ways (Client t) (Client u) = refl
 
   -- ## An answer goes to a session that has joined
 
-  -- what is the same of the seat with the answer is the same wherever one looks
-  unseen_down : {X : Type 0} (f : Option Seat → X) (seats : Seats) (s : Session) (seat new : Seat) → get seats s.0 ≡ Some seat → f (Some new) ≡ f (Some seat) → (t : ℕ) → f (get (insert seats s.0 new) t) ≡ f (get seats t)
-  unseen_down f seats s seat new is same t = ap f (get-insert nat_cmp_total seats s.0 new t) ∙ either (eq_by_cmp nat_cmp t s.0) refl
+  -- what is the same of the session with the answer is the same wherever one looks
+  unseen_down : {X : Type 0} (f : Option SessionState → X) (sessions : SessionStates) (s : Session) (state new : SessionState) → get sessions s.0 ≡ Some state → f (Some new) ≡ f (Some state) → (t : ℕ) → f (get (insert sessions s.0 new) t) ≡ f (get sessions t)
+  unseen_down f sessions s state new is same t = ap f (get-insert nat_cmp_total sessions s.0 new t) ∙ either (eq_by_cmp nat_cmp t s.0) refl
     where
-      either : (b : Bool) → eq_by_cmp nat_cmp t s.0 ≡ b → f (cond b (Some new) (get seats t)) ≡ f (get seats t)
-      either true e = same ∙ sym (ap f is) ∙ ap f (get_tied nat_cmp_total seats t s.0 (equal_is _ e))
+      either : (b : Bool) → eq_by_cmp nat_cmp t s.0 ≡ b → f (cond b (Some new) (get sessions t)) ≡ f (get sessions t)
+      either true e = same ∙ sym (ap f is) ∙ ap f (get_tied nat_cmp_total sessions t s.0 (equal_is _ e))
       either false e = refl
 
   abbrev answering : Session → Answer → ServerStepped → ServerStepped
-  answering s a x = record x { post = post_pushed x.post (Client s) (message (msg.Answer a)); seats = with_down k (Client s, msg.Answer a) x.seats }
+  answering s a x = record x { post = post_pushed x.post (Client s) (message (msg.Answer a)); sessions = with_down k (Client s, msg.Answer a) x.sessions }
 
-  answered : (s : Session) (a : Answer) (x : ServerStepped) (seat : Seat) → get x.seats s.0 ≡ Some seat → is_readable (msg.Answer a) ≡ true → IsWritten (msg.Answer a) → is_full_for x.post (Client s) (message (msg.Answer a)) ≡ false → AreTied (at x) → AreTied (at (answering s a x))
-  answered s a x seat is readable written room h =
-      subst (λ (m : Seats). AreTied (at (record x { post = post_pushed x.post (Client s) (message (msg.Answer a)); seats = m }))) (sym (ap (λ (o : Option Seat). with_down_at o s.0 (k, a) x.seats) is))
-      (tied_pushed (Server k) (Client s) x.post seat.post (msg.Answer a) (at x) (at later) (server_post x) (ap seat_post is) refl
+  answered : (s : Session) (a : Answer) (x : ServerStepped) (state : SessionState) → get x.sessions s.0 ≡ Some state → is_readable (msg.Answer a) ≡ true → IsWritten (msg.Answer a) → is_full_for x.post (Client s) (message (msg.Answer a)) ≡ false → AreTied (at x) → AreTied (at (answering s a x))
+  answered s a x state is readable written room h =
+      subst (λ (m : SessionStates). AreTied (at (record x { post = post_pushed x.post (Client s) (message (msg.Answer a)); sessions = m }))) (sym (ap (λ (o : Option SessionState). with_down_at o s.0 (k, a) x.sessions) is))
+      (tied_pushed (Server k) (Client s) x.post state.post (msg.Answer a) (at x) (at later) (server_post x) (ap state_post is) refl
       (written.fits readable) written.short (let free = leb-false _ _ room in omega (arith, free))
-      (server_changes x later [] elsewhere (sym (append-nil x.packets.sent))) out (unseen_down (ups_of k) x.seats s seat new is refl s.0) others h)
+      (server_changes x later [] elsewhere (sym (append-nil x.packets.sent))) out (unseen_down (ups_of k) x.sessions s state new is refl s.0) others h)
     where
-      new : Seat
-      new = record seat { down = seat.down ++ (k, a) ∷ [] }
+      new : SessionState
+      new = record state { down = state.down ++ (k, a) ∷ [] }
 
       later : ServerStepped
-      later = record x { post = post_pushed x.post (Client s) (message (msg.Answer a)); seats = insert x.seats s.0 new }
+      later = record x { post = post_pushed x.post (Client s) (message (msg.Answer a)); sessions = insert x.sessions s.0 new }
 
       f : ℕ × Answer → Msg
       f m = msg.Answer m.1
 
       elsewhere : Elsewhere k x later
       elsewhere = record {
-        posts = λ t. unseen_down seat_post x.seats s seat new is refl t;
-        ups = λ j t e. unseen_down (ups_of j) x.seats s seat new is refl t;
-        downs = λ j t e. unseen_down (downs_of j) x.seats s seat new is (ap (λ (ms : List (ℕ × Answer)). map f ms) (no_more (is_with j) seat.down (k, a) (turned_apart j k e))) t;
+        posts = λ t. unseen_down state_post x.sessions s state new is refl t;
+        ups = λ j t e. unseen_down (ups_of j) x.sessions s state new is refl t;
+        downs = λ j t e. unseen_down (downs_of j) x.sessions s state new is (ap (λ (ms : List (ℕ × Answer)). map f ms) (no_more (is_with j) state.down (k, a) (turned_apart j k e))) t;
         parcels = λ i j e g. refl;
       }
 
-      out : downs_of k (get (insert x.seats s.0 new) s.0) ≡ downs_of k (get x.seats s.0) ++ msg.Answer a ∷ []
-      out = ap (downs_of k) (got_here x.seats s new) ∙ one_more f (is_with k) seat.down (k, a) (itself k) ∙ ap (λ (o : Option Seat). downs_of k o ++ msg.Answer a ∷ []) (sym is)
+      out : downs_of k (get (insert x.sessions s.0 new) s.0) ≡ downs_of k (get x.sessions s.0) ++ msg.Answer a ∷ []
+      out = ap (downs_of k) (got_here x.sessions s new) ∙ one_more f (is_with k) state.down (k, a) (itself k) ∙ ap (λ (o : Option SessionState). downs_of k o ++ msg.Answer a ∷ []) (sym is)
 
       others : (c : Peer) → same_peer c (Client s) ≡ false → (between (at later) (Server k) c ≡ between (at x) (Server k) c) × (between (at later) c (Server k) ≡ between (at x) c (Server k))
       others (Client t) e = (
-        ap (downs_of k) (get-insert nat_cmp_total x.seats s.0 new t.0 ∙ ap (λ (b : Bool). cond b (Some new) (get x.seats t.0)) e),
-        unseen_down (ups_of k) x.seats s seat new is refl t.0,
+        ap (downs_of k) (get-insert nat_cmp_total x.sessions s.0 new t.0 ∙ ap (λ (b : Bool). cond b (Some new) (get x.sessions t.0)) e),
+        unseen_down (ups_of k) x.sessions s state new is refl t.0,
       )
       others (Server j) e = (refl, refl)
 
@@ -207,60 +207,61 @@ module _ (w : Served) (k : ℕ) (there : k < length w.posts) where
   -- ## All that is sent, one after another
 
   abbrev sending : List (Peer × Msg) → ServerStepped → ServerStepped
-  sending xs x = record x { post = with_pushed xs x.post; seats = with_downs k xs x.seats; in_flight = x.in_flight ++ in_flight_from k xs }
+  sending xs x =
+      record x { post = with_pushed xs x.post; sessions = with_downs k xs x.sessions; in_flight = x.in_flight ++ in_flight_from k xs }
 
-  module _ (servers : ℕ) (seats : Seats) (posts : (j : ℕ) → j < servers → (q : Links) × (slice_get w.posts j ≡ Some q)) (readable : (s : Session) → HasJoined seats s → is_readable_session s ≡ true) where
-    pub server_sends : (xs : List (Peer × Msg)) (x : ServerStepped) → ((t : Session) → HasJoined seats t → HasJoined x.seats t) → AreSent servers seats k xs → FitsDown xs → is_full_down xs x.post ≡ false → AreTied (at x) → AreTied (at (sending xs x))
+  module _ (servers : ℕ) (sessions : SessionStates) (posts : (j : ℕ) → j < servers → (q : Links) × (slice_get w.posts j ≡ Some q)) (readable : (s : Session) → HasJoined sessions s → is_readable_session s ≡ true) where
+    pub server_sends : (xs : List (Peer × Msg)) (x : ServerStepped) → ((t : Session) → HasJoined sessions t → HasJoined x.sessions t) → AreSent servers sessions k xs → FitsDown xs → is_full_down xs x.post ≡ false → AreTied (at x) → AreTied (at (sending xs x))
     server_sends [] x joined sent fits room h = subst (λ (fs : List InFlight). AreTied (at (record x { in_flight = fs }))) (sym (append-nil x.in_flight)) h
     server_sends ((Client s, msg.Answer a) ∷ xs) x joined sent fits room h =
         let rooms = neither (is_full_for x.post (Client s) (message (msg.Answer a))) (is_full_down xs (post_pushed x.post (Client s) (message (msg.Answer a)))) room in
-        let seat = joined s sent.0.0 in
-        server_sends xs (answering s a x) (λ t g. down_joined k (Client s, msg.Answer a) x.seats t (joined t g)) sent.1 fits.1 rooms.1 (answered s a x seat.0 seat.1 sent.0.2 fits.0 rooms.0 h)
+        let state = joined s sent.0.0 in
+        server_sends xs (answering s a x) (λ t g. down_joined k (Client s, msg.Answer a) x.sessions t (joined t g)) sent.1 fits.1 rooms.1 (answered s a x state.0 state.1 sent.0.2 fits.0 rooms.0 h)
     server_sends ((Client s, msg.Client m) ∷ xs) x joined sent fits room h = absurd sent.0
     server_sends ((Client s, msg.Peer m) ∷ xs) x joined sent fits room h = absurd sent.0
     server_sends ((Server to, msg.Peer p) ∷ xs) x joined sent fits room h =
         let rooms = neither (is_full_for x.post (Server to) (message (msg.Peer p))) (is_full_down xs (post_pushed x.post (Server to) (message (msg.Peer p)))) room in
         let q = posts to sent.0.to in
         subst (λ (fs : List InFlight). AreTied (at (record (sending xs (moving to p x)) { in_flight = fs }))) (append_assoc x.in_flight (flies to p ∷ []) (in_flight_from k xs))
-        (server_sends xs (moving to p x) joined sent.1 fits.1 rooms.1 (moved to p x q.0 q.1 sent.0.apart (sent_readable servers seats k (Server to, msg.Peer p) readable sent.0) fits.0 rooms.0 h))
+        (server_sends xs (moving to p x) joined sent.1 fits.1 rooms.1 (moved to p x q.0 q.1 sent.0.apart (sent_readable servers sessions k (Server to, msg.Peer p) readable sent.0) fits.0 rooms.0 h))
     server_sends ((Server to, msg.Answer a) ∷ xs) x joined sent fits room h = absurd sent.0
     server_sends ((Server to, msg.Client m) ∷ xs) x joined sent fits room h = absurd sent.0
 
   -- ## A packet comes
 
   -- of a session
-  abbrev hearing : Session → Seat → Packet → ServerStepped → ServerStepped
-  hearing s seat p x = record x { post = (post_accepted x.post (Client s) p).links; seats = insert x.seats s.0 (record seat { up = without_each (post_accepted x.post (Client s) p).heard.joined (is_with k) seat.up }) }
+  abbrev hearing : Session → SessionState → Packet → ServerStepped → ServerStepped
+  hearing s state p x = record x { post = (post_accepted x.post (Client s) p).links; sessions = insert x.sessions s.0 (record state { up = without_each (post_accepted x.post (Client s) p).heard.joined (is_with k) state.up }) }
 
-  pub server_hears_session : (s : Session) (seat : Seat) (p : Packet) (x : ServerStepped) → get x.seats s.0 ≡ Some seat → IsPacketOf (link_with seat.post (Server k)).window (link_with x.post (Client s)).window p → AreTied (at x) → AreTied (at (hearing s seat p x))
-  server_hears_session s seat p x is of h =
-      tied_accepted (Server k) (Client s) x.post seat.post p (at x) (at (hearing s seat p x)) (server_post x) (ap seat_post is) refl of
-      (server_changes x (hearing s seat p x) [] elsewhere (sym (append-nil x.packets.sent))) (unseen_down (downs_of k) x.seats s seat new is refl s.0) back others h
+  pub server_hears_session : (s : Session) (state : SessionState) (p : Packet) (x : ServerStepped) → get x.sessions s.0 ≡ Some state → IsPacketOf (link_with state.post (Server k)).window (link_with x.post (Client s)).window p → AreTied (at x) → AreTied (at (hearing s state p x))
+  server_hears_session s state p x is of h =
+      tied_accepted (Server k) (Client s) x.post state.post p (at x) (at (hearing s state p x)) (server_post x) (ap state_post is) refl of
+      (server_changes x (hearing s state p x) [] elsewhere (sym (append-nil x.packets.sent))) (unseen_down (downs_of k) x.sessions s state new is refl s.0) back others h
     where
       joined : List Joined
       joined = (post_accepted x.post (Client s) p).heard.joined
 
-      new : Seat
-      new = record seat { up = without_each joined (is_with k) seat.up }
+      new : SessionState
+      new = record state { up = without_each joined (is_with k) state.up }
 
       f : ℕ × ClientMsg → Msg
       f m = msg.Client m.1
 
-      elsewhere : Elsewhere k x (hearing s seat p x)
+      elsewhere : Elsewhere k x (hearing s state p x)
       elsewhere = record {
-        posts = λ t. unseen_down seat_post x.seats s seat new is refl t;
-        ups = λ j t e. unseen_down (ups_of j) x.seats s seat new is (ap (λ (ms : List (ℕ × ClientMsg)). map f ms) (others_taken joined (is_with k) (is_with j) seat.up (λ m q. with_other j k m e q))) t;
-        downs = λ j t e. unseen_down (downs_of j) x.seats s seat new is refl t;
+        posts = λ t. unseen_down state_post x.sessions s state new is refl t;
+        ups = λ j t e. unseen_down (ups_of j) x.sessions s state new is (ap (λ (ms : List (ℕ × ClientMsg)). map f ms) (others_taken joined (is_with k) (is_with j) state.up (λ m q. with_other j k m e q))) t;
+        downs = λ j t e. unseen_down (downs_of j) x.sessions s state new is refl t;
         parcels = λ i j e g. refl;
       }
 
-      back : ups_of k (get (insert x.seats s.0 new) s.0) ≡ rest_of joined (ups_of k (get x.seats s.0))
-      back = ap (ups_of k) (got_here x.seats s new) ∙ rest_taken f joined (is_with k) seat.up ∙ ap (λ (o : Option Seat). rest_of joined (ups_of k o)) (sym is)
+      back : ups_of k (get (insert x.sessions s.0 new) s.0) ≡ rest_of joined (ups_of k (get x.sessions s.0))
+      back = ap (ups_of k) (got_here x.sessions s new) ∙ rest_taken f joined (is_with k) state.up ∙ ap (λ (o : Option SessionState). rest_of joined (ups_of k o)) (sym is)
 
-      others : (c : Peer) → same_peer c (Client s) ≡ false → (between (at (hearing s seat p x)) (Server k) c ≡ between (at x) (Server k) c) × (between (at (hearing s seat p x)) c (Server k) ≡ between (at x) c (Server k))
+      others : (c : Peer) → same_peer c (Client s) ≡ false → (between (at (hearing s state p x)) (Server k) c ≡ between (at x) (Server k) c) × (between (at (hearing s state p x)) c (Server k) ≡ between (at x) c (Server k))
       others (Client t) e = (
-        unseen_down (downs_of k) x.seats s seat new is refl t.0,
-        ap (ups_of k) (get-insert nat_cmp_total x.seats s.0 new t.0 ∙ ap (λ (b : Bool). cond b (Some new) (get x.seats t.0)) e),
+        unseen_down (downs_of k) x.sessions s state new is refl t.0,
+        ap (ups_of k) (get-insert nat_cmp_total x.sessions s.0 new t.0 ∙ ap (λ (b : Bool). cond b (Some new) (get x.sessions t.0)) e),
       )
       others (Server j) e = (refl, refl)
 
@@ -305,5 +306,6 @@ module _ (w : Served) (k : ℕ) (there : k < length w.posts) where
       others (Client t) e = (refl, refl)
       others (Server i) e = (
         ap (λ (ms : List InFlight). map f ms) (others_taken joined (is_between j k) (is_between k i) x.in_flight (λ m q. from_other k i apart_here m q)),
-        ap (λ (ms : List InFlight). map f ms) (others_taken joined (is_between j k) (is_between i k) x.in_flight (λ m q. from_other i k e m q)),
+        ap (λ (ms : List InFlight). map f ms)
+            (others_taken joined (is_between j k) (is_between i k) x.in_flight (λ m q. from_other i k e m q)),
       )

@@ -82,7 +82,7 @@ use Rattle.fs_server.specs.declared.state.Server.{Server as Core}
 use Rattle.fs_wire.specs.Readable.{is_readable_handle, is_readable_row, is_readable_session}
 use Rattle.fs_world.specs.Linked.{AreOfJoined, HasJoined, IsCarried, IsNamedAnswer, IsNamedEnd, IsNamedLed, IsParcelOf, IsServed, BringsParcel}
 use Rattle.fs_world.specs.Readable.{HasOpenHandles, RecordsOpen}
-use Rattle.fs_world.specs.Served.{Seats}
+use Rattle.fs_world.specs.Served.{SessionStates}
 use Rattle.fs_world.proofs.NamedMaps.{moved_named, named_first, named_give, named_take, why_named}
 use Rattle.fs_world.proofs.OpenHandles.{AddsOpen, effects_open, first_open, open_after_all, open_after_gift, open_given, open_left, open_with, value_open}
 use Rattle.fs_world.proofs.SeenRows.{AreOf, filtered, put, put_all, recall_sent, recalled_at, recalled_for, released, renewed}
@@ -90,26 +90,26 @@ use Rattle.fs_world.proofs.SeenRows.{AreOf, filtered, put, put_all, recall_sent,
 -- ## What is sent
 
 -- an answer to a session that has joined, which names servers that there are and can be read, or a message for another server
-abbrev pub IsSent : ℕ → Seats → ℕ → Peer × Msg → Type 0
-IsSent servers seats k (Client s, msg.Answer a) = HasJoined seats s × IsNamedAnswer servers a × (is_readable_answer a ≡ true)
-IsSent servers seats k (Server to, msg.Peer m) = IsCarried servers seats (record { from = k; to = to; message = m })
-IsSent servers seats k x = ⊥
+abbrev pub IsSent : ℕ → SessionStates → ℕ → Peer × Msg → Type 0
+IsSent servers sessions k (Client s, msg.Answer a) = HasJoined sessions s × IsNamedAnswer servers a × (is_readable_answer a ≡ true)
+IsSent servers sessions k (Server to, msg.Peer m) = IsCarried servers sessions (record { from = k; to = to; message = m })
+IsSent servers sessions k x = ⊥
 
-abbrev pub AreSent : ℕ → Seats → ℕ → List (Peer × Msg) → Type 0
-AreSent servers seats k messages = AllByRecursion (IsSent servers seats k) messages
+abbrev pub AreSent : ℕ → SessionStates → ℕ → List (Peer × Msg) → Type 0
+AreSent servers sessions k messages = AllByRecursion (IsSent servers sessions k) messages
 
 -- a step leaves such a server, and sends such messages
-pub record IsStepped (servers : ℕ) (seats : Seats) (k : ℕ) (x : Stepped) : Type 0 where
-  pub server : IsServed servers seats k x.server
-  pub sends : AreSent servers seats k x.out.send
+pub record IsStepped (servers : ℕ) (sessions : SessionStates) (k : ℕ) (x : Stepped) : Type 0 where
+  pub server : IsServed servers sessions k x.server
+  pub sends : AreSent servers sessions k x.out.send
 
 -- what the event brings is of a session that has joined, and can be read; or a server sent it
-abbrev pub IsBrought : ℕ → Seats → Core → ServerEvent → Type 0
-IsBrought servers seats s (FromClient by m) = HasJoined seats by × (is_readable (msg.Client m) ≡ true)
-IsBrought servers seats s (FromPeer from m) = BringsParcel seats m
-IsBrought servers seats s (Move prefix to) = to < servers
-IsBrought servers seats s Turn = Unit {0}
-IsBrought servers seats s (Recall field) = Unit {0}
+abbrev pub IsBrought : ℕ → SessionStates → Core → ServerEvent → Type 0
+IsBrought servers sessions s (FromClient by m) = HasJoined sessions by × (is_readable (msg.Client m) ≡ true)
+IsBrought servers sessions s (FromPeer from m) = BringsParcel sessions m
+IsBrought servers sessions s (Move prefix to) = to < servers
+IsBrought servers sessions s Turn = Unit {0}
+IsBrought servers sessions s (Recall field) = Unit {0}
 
 -- ## What is sent can be read
 
@@ -124,25 +124,25 @@ in_range n least most some few = grind (arith, nat_tests)
 record_passes : (r : Record) → HasOpenHandles r → IsRecord r → is_readable_record r ≡ true
 record_passes r h own = joined _ _ (handles_pass r.node.handles h) (in_range r.next 1 (2 ^ 32) own.least own.most)
 
-parcel_readable : (seats : Seats) (p : Parcel) → ((s : Session) → HasJoined seats s → is_readable_session s ≡ true) → IsParcelOf seats p → is_readable_parcel p ≡ true
-parcel_readable seats p readable h =
+parcel_readable : (sessions : SessionStates) (p : Parcel) → ((s : Session) → HasJoined sessions s → is_readable_session s ≡ true) → IsParcelOf sessions p → is_readable_parcel p ≡ true
+parcel_readable sessions p readable h =
     joined _ _ (In-all (λ (e : List ℕ × Record). is_readable_record e.1) p.records (λ e i. record_passes e.1 (h.handles e i) (h.each e i)))
     (In-all is_readable_row p.rows (λ row i. readable row.session (h.rows row i)))
 
-peer_readable : (seats : Seats) (m : PeerMsg) → ((s : Session) → HasJoined seats s → is_readable_session s ≡ true) → BringsParcel seats m → is_readable (msg.Peer m) ≡ true
-peer_readable seats (OfParcel p) readable h = parcel_readable seats p readable h
-peer_readable seats (Prepare m) readable h = absurd h
-peer_readable seats (Vote m) readable h = absurd h
-peer_readable seats (Decide m) readable h = absurd h
-peer_readable seats (Done m) readable h = absurd h
+peer_readable : (sessions : SessionStates) (m : PeerMsg) → ((s : Session) → HasJoined sessions s → is_readable_session s ≡ true) → BringsParcel sessions m → is_readable (msg.Peer m) ≡ true
+peer_readable sessions (OfParcel p) readable h = parcel_readable sessions p readable h
+peer_readable sessions (Prepare m) readable h = absurd h
+peer_readable sessions (Vote m) readable h = absurd h
+peer_readable sessions (Decide m) readable h = absurd h
+peer_readable sessions (Done m) readable h = absurd h
 
-pub sent_readable : (servers : ℕ) (seats : Seats) (k : ℕ) (x : Peer × Msg) → ((s : Session) → HasJoined seats s → is_readable_session s ≡ true) → IsSent servers seats k x → is_readable x.1 ≡ true
-sent_readable servers seats k (Client s, msg.Answer a) readable h = h.2
-sent_readable servers seats k (Client s, msg.Client m) readable h = absurd h
-sent_readable servers seats k (Client s, msg.Peer m) readable h = absurd h
-sent_readable servers seats k (Server to, msg.Answer a) readable h = absurd h
-sent_readable servers seats k (Server to, msg.Client m) readable h = absurd h
-sent_readable servers seats k (Server to, msg.Peer m) readable h = peer_readable seats m readable h.parcel
+pub sent_readable : (servers : ℕ) (sessions : SessionStates) (k : ℕ) (x : Peer × Msg) → ((s : Session) → HasJoined sessions s → is_readable_session s ≡ true) → IsSent servers sessions k x → is_readable x.1 ≡ true
+sent_readable servers sessions k (Client s, msg.Answer a) readable h = h.2
+sent_readable servers sessions k (Client s, msg.Client m) readable h = absurd h
+sent_readable servers sessions k (Client s, msg.Peer m) readable h = absurd h
+sent_readable servers sessions k (Server to, msg.Answer a) readable h = absurd h
+sent_readable servers sessions k (Server to, msg.Client m) readable h = absurd h
+sent_readable servers sessions k (Server to, msg.Peer m) readable h = peer_readable sessions m readable h.parcel
 
 -- a rename and a delete add no handle
 led_open : (o : Op) (file : List ℕ) (r : Reply) → AllByRecursion AddsOpen (led_effects o file r)
@@ -156,22 +156,23 @@ first_kept : (first : Bool) → AreRecords (first_records first)
 first_kept true = kept_insert empty [] root_record kept_empty root_kept
 first_kept false = kept_empty
 
-pub first_served_core : (servers : ℕ) (seats : Seats) (k skew term : ℕ) → 0 < servers → IsServed servers seats k (first_server k skew term)
-first_served_core servers seats k skew term some = record { me = refl; named = named_first servers some; records = first_kept (k == 0); handles = first_open (k == 0); rows = λ row i. absurd i }
+pub first_served_core : (servers : ℕ) (sessions : SessionStates) (k skew term : ℕ) → 0 < servers
+    → IsServed servers sessions k (first_server k skew term)
+first_served_core servers sessions k skew term some = record { me = refl; named = named_first servers some; records = first_kept (k == 0); handles = first_open (k == 0); rows = λ row i. absurd i }
 
-module _ (servers : ℕ) (seats : Seats) (k : ℕ) (some : k < servers) (readable : (s : Session) → HasJoined seats s → is_readable_session s ≡ true) where
+module _ (servers : ℕ) (sessions : SessionStates) (k : ℕ) (some : k < servers) (readable : (s : Session) → HasJoined sessions s → is_readable_session s ≡ true) where
   abbrev Fine : Core → Type 0
-  Fine s = IsServed servers seats k s
+  Fine s = IsServed servers sessions k s
 
   abbrev Goes : Stepped → Type 0
-  Goes x = IsStepped servers seats k x
+  Goes x = IsStepped servers sessions k x
 
   -- with other rows, or other records
-  with_others : (s : Core) (rows : List Row) → Fine s → AreOf (HasJoined seats) rows → Fine (record s { rows = rows })
+  with_others : (s : Core) (rows : List Row) → Fine s → AreOf (HasJoined sessions) rows → Fine (record s { rows = rows })
   with_others s rows h g = record { me = h.me; named = h.named; records = h.records; handles = h.handles; rows = g }
 
   begun_fine : (now : ℕ) (s : Core) → Fine s → Fine (begun now s)
-  begun_fine now s h = record { me = h.me; named = h.named; records = h.records; handles = h.handles; rows = filtered (HasJoined seats) (is_live (begun now s).last s.skew) s.rows h.rows }
+  begun_fine now s h = record { me = h.me; named = h.named; records = h.records; handles = h.handles; rows = filtered (HasJoined sessions) (is_live (begun now s).last s.skew) s.rows h.rows }
 
   moved_end : (s : Core) (id : List ℕ) → Fine s → IsNamedEnd servers (moved s id)
   moved_end s id h = moved_named servers s id (omega (arith, some)) h.named
@@ -185,8 +186,8 @@ module _ (servers : ℕ) (seats : Seats) (k : ℕ) (some : k < servers) (readabl
 
   -- ## A question
 
-  lease_fine : (by : Session) (field : Field) (kind : LeaseKind) (promise : Option Bool) (s : Core) → HasJoined seats by → Fine s → Fine (with_lease by field kind promise s)
-  lease_fine by field kind promise s of h = record { me = h.me; named = h.named; records = h.records; handles = h.handles; rows = put (HasJoined seats) _ s.rows of h.rows }
+  lease_fine : (by : Session) (field : Field) (kind : LeaseKind) (promise : Option Bool) (s : Core) → HasJoined sessions by → Fine s → Fine (with_lease by field kind promise s)
+  lease_fine by field kind promise s of h = record { me = h.me; named = h.named; records = h.records; handles = h.handles; rows = put (HasJoined sessions) _ s.rows of h.rows }
 
   -- the server, and the answer so far
   record IsAsking (a : Asking) : Type 0 where
@@ -207,7 +208,7 @@ module _ (servers : ℕ) (seats : Seats) (k : ℕ) (some : k < servers) (readabl
   ask_end by x s at (kept_off txn mine e) h = tt
   ask_end by x s at (elsewhere mine) h = moved_end s (file_of x.0) h
 
-  asked_fine : (by : Session) → HasJoined seats by → (items : List (Field × LeaseKind)) (s : Core) (grants : List Grant) → Fine s → list_all is_readable_grant grants ≡ true → IsAsking (ask_from by items s grants)
+  asked_fine : (by : Session) → HasJoined sessions by → (items : List (Field × LeaseKind)) (s : Core) (grants : List Grant) → Fine s → list_all is_readable_grant grants ≡ true → IsAsking (ask_from by items s grants)
   asked_fine by of = each_item by (λ items s grants a. Fine s → list_all is_readable_grant grants ≡ true → IsAsking a)
       (λ s grants h g. record { server = h; grants = g; end = tt })
       (λ x xs s grants promise a mine e more h g.
@@ -215,7 +216,7 @@ module _ (servers : ℕ) (seats : Seats) (k : ℕ) (some : k < servers) (readabl
       more (lease_fine by x.0 kind promise s of h) (one_grant grants (grant_of by x.0 kind s) g (value_open s.records by x.0 h.handles)))
       (λ x xs s grants at why h g. record { server = h; grants = g; end = ask_end by x s at why h })
 
-  fresh_fine : (by : Session) (dir borne : List ℕ) (o : Option ℕ) (a : Asking) → fresh_number a.server.records dir borne ≡ o → HasJoined seats by → IsAsking a → IsAsking (fresh_of by dir o a)
+  fresh_fine : (by : Session) (dir borne : List ℕ) (o : Option ℕ) (a : Asking) → fresh_number a.server.records dir borne ≡ o → HasJoined sessions by → IsAsking a → IsAsking (fresh_of by dir o a)
   fresh_fine by dir borne None a is of h = record { server = h.server; grants = h.grants; end = tt }
   fresh_fine by dir borne (Some n) a is of h =
       let lent = lease_fine by (Life (child dir n)) Exclusive None a.server of h.server in
@@ -225,27 +226,27 @@ module _ (servers : ℕ) (seats : Seats) (k : ℕ) (some : k < servers) (readabl
         end = tt;
       }
 
-  there_fine : (by : Session) (dir : List ℕ) (b : Bool) (a : Asking) → HasJoined seats by → IsAsking a → IsAsking (fresh_in by dir b a)
+  there_fine : (by : Session) (dir : List ℕ) (b : Bool) (a : Asking) → HasJoined sessions by → IsAsking a → IsAsking (fresh_in by dir b a)
   there_fine by dir true a of h =
       let borne = borne_numbers dir a.server.rows in
       fresh_fine by dir borne (fresh_number a.server.records dir borne) a refl of h
   there_fine by dir false a of h = h
 
-  wanted_fine : (by : Session) (dir : Option (List ℕ)) (a : Asking) → HasJoined seats by → IsAsking a → IsAsking (fresh_for by dir a)
+  wanted_fine : (by : Session) (dir : Option (List ℕ)) (a : Asking) → HasJoined sessions by → IsAsking a → IsAsking (fresh_for by dir a)
   wanted_fine by None a of h = h
   wanted_fine by (Some dir) a of h =
       either_asking (is_mine a.server dir) (fresh_in by dir (is_directory a.server.records dir) a) (record a { end = moved a.server dir })
       (there_fine by dir (is_directory a.server.records dir) a of h) (record { server = h.server; grants = h.grants; end = moved_end a.server dir h.server })
 
-  all_asked_fine : (by : Session) (dir : Option (List ℕ)) (e : End) (a : Asking) → HasJoined seats by → IsAsking a → IsAsking (ask_fresh by dir e a)
+  all_asked_fine : (by : Session) (dir : Option (List ℕ)) (e : End) (a : Asking) → HasJoined sessions by → IsAsking a → IsAsking (ask_fresh by dir e a)
   all_asked_fine by dir end.All a of h = wanted_fine by dir a of h
   all_asked_fine by dir e a of h = h
 
-  ask_goes : (by : Session) (items : List (Field × LeaseKind)) (dir : Option (List ℕ)) (s : Core) → HasJoined seats by → Fine s → Goes (ask_step by items dir s)
+  ask_goes : (by : Session) (items : List (Field × LeaseKind)) (dir : Option (List ℕ)) (s : Core) → HasJoined sessions by → Fine s → Goes (ask_step by items dir s)
   ask_goes by items dir s of h =
       let a = ask_from by items s [] in
       let all : IsAsking (asked_in by items dir s) = all_asked_fine by dir a.end a of (asked_fine by of items s [] h refl) in
-      record { server = all.server; sends = ((of, all.end, all.grants), recalled_at (HasJoined seats) (IsSent servers seats k) (λ s n h. (h, tt, refl)) (asked_in by items dir s).end (asked_in by items dir s).server.rows all.server.rows) }
+      record { server = all.server; sends = ((of, all.end, all.grants), recalled_at (HasJoined sessions) (IsSent servers sessions k) (λ s n h. (h, tt, refl)) (asked_in by items dir s).end (asked_in by items dir s).server.rows all.server.rows) }
 
   -- ## Renewals and releases
 
@@ -268,14 +269,14 @@ module _ (servers : ℕ) (seats : Seats) (k : ℕ) (some : k < servers) (readabl
   ship_end by e es s at gaps (refused u mine gone) h = tt
   ship_end by e es s at gaps (misplaced mine) h = moved_end s (home_of e.op) h
 
-  entries_fine : (by : Session) → HasJoined seats by → (es : List Entry) (s : Core) (admitted : List Item) → list_all is_readable_entry es ≡ true → Fine s → IsShipping (ship_from by es s admitted)
+  entries_fine : (by : Session) → HasJoined sessions by → (es : List Entry) (s : Core) (admitted : List Item) → list_all is_readable_entry es ≡ true → Fine s → IsShipping (ship_from by es s admitted)
   entries_fine by of = each_entry by (λ es s admitted x. list_all is_readable_entry es ≡ true → Fine s → IsShipping x)
       (λ s admitted r h. record { server = h; end = tt })
       (λ e es s admitted x mine here more r h. more (second _ _ r)
       (record { me = h.me; named = h.named; records = after_all_kept s.records (effects_of by e.op e.reply) h.records; handles = open_after_all s.records (effects_of by e.op e.reply) (effects_open by e.op e.reply (readable by of) (first _ _ r)) h.handles; rows = h.rows }))
       (λ e es s admitted at gaps why r h. record { server = h; end = ship_end by e es s at gaps why h })
 
-  ship_goes : (by : Session) (entries : List Entry) (s : Core) → HasJoined seats by → list_all is_readable_entry entries ≡ true → Fine s → Goes (ship_step by entries s)
+  ship_goes : (by : Session) (entries : List Entry) (s : Core) → HasJoined sessions by → list_all is_readable_entry entries ≡ true → Fine s → Goes (ship_step by entries s)
   ship_goes by entries s of r h =
       let all : IsShipping (ship_from by entries s []) = entries_fine by of entries s [] r h in
       either_goes (list_all (λ (e : Entry). tells_its_effects e.op) entries) (shipped by (ship_from by entries s [])) (strange s) (record { server = all.server; sends = ((of, all.end, refl), tt) }) (strange_goes s h)
@@ -289,7 +290,7 @@ module _ (servers : ℕ) (seats : Seats) (k : ℕ) (some : k < servers) (readabl
       at (inl q) = subst (λ v. IsNamedLed servers (led_end.Again v)) (sym q.1) (why_named servers s.map (home_of m.op) (omega (arith, some)) h.named)
       at (inr q) = subst (λ v. IsNamedLed servers (led_end.Again v)) (sym q) tt
 
-  lead_goes : (by : Session) (m : ToLead) (s : Core) (x : Stepped) → LeadEnds by m s x → HasJoined seats by → Fine s → Goes x
+  lead_goes : (by : Session) (m : ToLead) (s : Core) (x : Stepped) → LeadEnds by m s x → HasJoined sessions by → Fine s → Goes x
   lead_goes by m s x (unled l) of h = strange_goes s h
   lead_goes by m s x (put_off w l r) of h = record { server = h; sends = ((of, why_fine m s w r h, refl), tt) }
   lead_goes by m s x (aborted u l r g) of h = record { server = record { me = h.me; named = h.named; records = h.records; handles = h.handles; rows = h.rows }; sends = ((of, tt, refl), tt) }
@@ -300,14 +301,14 @@ module _ (servers : ℕ) (seats : Seats) (k : ℕ) (some : k < servers) (readabl
         sends = ((of, tt, refl), tt);
       }
 
-  message_goes : (by : Session) (m : ClientMsg) (s : Core) → HasJoined seats by → is_readable (msg.Client m) ≡ true → Fine s → Goes (message_step by m s)
+  message_goes : (by : Session) (m : ClientMsg) (s : Core) → HasJoined sessions by → is_readable (msg.Client m) ≡ true → Fine s → Goes (message_step by m s)
   message_goes by (Ask items fresh) s of r h = ask_goes by items fresh s of h
   message_goes by (Renew pairs) s of r h = record {
-    server = with_others s (renewed_rows (end_of s) (numbers_in (pairs_here s pairs)) s.rows) h (renewed (HasJoined seats) (end_of s) (numbers_in (pairs_here s pairs)) s.rows h.rows);
+    server = with_others s (renewed_rows (end_of s) (numbers_in (pairs_here s pairs)) s.rows) h (renewed (HasJoined sessions) (end_of s) (numbers_in (pairs_here s pairs)) s.rows h.rows);
     sends = ((of, pairs_fine s pairs h, refl), tt);
   }
   message_goes by (Release pairs) s of r h = record {
-    server = with_others s (released_rows (numbers_in (pairs_here s pairs)) s.rows) h (released (HasJoined seats) (numbers_in (pairs_here s pairs)) s.rows h.rows);
+    server = with_others s (released_rows (numbers_in (pairs_here s pairs)) s.rows) h (released (HasJoined sessions) (numbers_in (pairs_here s pairs)) s.rows h.rows);
     sends = ((of, pairs_fine s pairs h, refl), tt);
   }
   message_goes by (Ship entries) s of r h = ship_goes by entries s of r h
@@ -332,7 +333,7 @@ module _ (servers : ℕ) (seats : Seats) (k : ℕ) (some : k < servers) (readabl
   turn_goes (x ∷ xs) s h =
       let all : Reaping = reap_from (x ∷ xs) s [] [] in
       let fine : Fine all.server = reaped_fine (x ∷ xs) s [] [] h in
-      record { server = fine; sends = recalled_for (HasJoined seats) (IsSent servers seats k) (λ s n h. (h, tt, refl)) all.server.rows all.blockers fine.rows }
+      record { server = fine; sends = recalled_for (HasJoined sessions) (IsSent servers sessions k) (λ s n h. (h, tt, refl)) all.server.rows all.blockers fine.rows }
 
   -- ## Moves
 
@@ -356,7 +357,7 @@ module _ (servers : ℕ) (seats : Seats) (k : ℕ) (some : k < servers) (readabl
           named = named_give servers s.map s.me prefix to few h.named;
           records = left_kept prefix piece s.records h.records;
           handles = open_left prefix piece s.records h.handles;
-          rows = filtered (HasJoined seats) (λ r. not (is_on_given prefix piece r)) s.rows h.rows;
+          rows = filtered (HasJoined sessions) (λ r. not (is_on_given prefix piece r)) s.rows h.rows;
         };
         sends = (
           record {
@@ -366,7 +367,7 @@ module _ (servers : ℕ) (seats : Seats) (k : ℕ) (some : k < servers) (readabl
             parcel = record {
               each = given_each prefix piece s.records h.records;
               handles = open_given prefix piece s.records h.handles;
-              rows = filtered (HasJoined seats) (is_on_given prefix piece) s.rows h.rows;
+              rows = filtered (HasJoined sessions) (is_on_given prefix piece) s.rows h.rows;
             };
           },
           tt,
@@ -375,20 +376,20 @@ module _ (servers : ℕ) (seats : Seats) (k : ℕ) (some : k < servers) (readabl
 
   -- ## A parcel comes
 
-  parcel_goes : (b : Bool) (p : Parcel) (s : Core) → IsParcelOf seats p → Fine s → Goes (parcel_at b p s)
+  parcel_goes : (b : Bool) (p : Parcel) (s : Core) → IsParcelOf sessions p → Fine s → Goes (parcel_at b p s)
   parcel_goes true p s of h = record {
     server = record {
       me = h.me;
       named = named_take servers s.map s.me p.prefix p.piece.given (subst (λ (n : ℕ). n < servers) (sym h.me) some) h.named;
       records = with_kept s.records p.records h.records of.each;
       handles = open_with p.records s.records of.handles h.handles;
-      rows = put_all (HasJoined seats) p.rows s.rows of.rows h.rows;
+      rows = put_all (HasJoined sessions) p.rows s.rows of.rows h.rows;
     };
     sends = tt;
   }
   parcel_goes false p s of h = strange_goes s h
 
-  peer_goes : (from : ℕ) (m : PeerMsg) (s : Core) → BringsParcel seats m → Fine s → Goes (peer_step from m s)
+  peer_goes : (from : ℕ) (m : PeerMsg) (s : Core) → BringsParcel sessions m → Fine s → Goes (peer_step from m s)
   peer_goes from (OfParcel p) s of h = parcel_goes (fits_here p s) p s of h
   peer_goes from (Prepare m) s of h = absurd of
   peer_goes from (Vote m) s of h = absurd of
@@ -397,17 +398,17 @@ module _ (servers : ℕ) (seats : Seats) (k : ℕ) (some : k < servers) (readabl
 
   -- ## An event
 
-  event_goes : (e : ServerEvent) (s : Core) → IsBrought servers seats s e → Fine s → Goes (event_step e s)
+  event_goes : (e : ServerEvent) (s : Core) → IsBrought servers sessions s e → Fine s → Goes (event_step e s)
   event_goes (FromClient by m) s b h = message_goes by m s b.0 b.1 h
   event_goes (FromPeer from m) s b h = peer_goes from m s b h
   event_goes Turn s b h = turn_goes (lapsed_in s) s h
-  event_goes (Recall field) s b h = record { server = h; sends = recall_sent (HasJoined seats) (IsSent servers seats k) (λ s n h. (h, tt, refl)) (is_mine s (file_of field)) field s.rows h.rows }
+  event_goes (Recall field) s b h = record { server = h; sends = recall_sent (HasJoined sessions) (IsSent servers sessions k) (λ s n h. (h, tt, refl)) (is_mine s (file_of field)) field s.rows h.rows }
   event_goes (Move prefix to) s b h = moves_goes prefix to s (move_refusal s.records s.rows s.map s.me prefix to None) refl b h
 
-  pub step_goes : (s : Core) (now : ℕ) (e : ServerEvent) → IsBrought servers seats s e → Fine s → Goes (step s now e)
+  pub step_goes : (s : Core) (now : ℕ) (e : ServerEvent) → IsBrought servers sessions s e → Fine s → Goes (step s now e)
   step_goes s now e b h = event_goes e (begun now s) (still e b) (begun_fine now s h)
     where
-      still : (e : ServerEvent) → IsBrought servers seats s e → IsBrought servers seats (begun now s) e
+      still : (e : ServerEvent) → IsBrought servers sessions s e → IsBrought servers sessions (begun now s) e
       still (FromClient by m) b = b
       still (FromPeer from m) b = b
       still Turn b = b

@@ -31,18 +31,18 @@ use Rattle.fs_server.specs.declared.event.ServerEvent.{ServerEvent}
 use Rattle.fs_server.specs.declared.event.ServerEvent.TheVariants.{Turn as TheTurn, Recall as TheRecall, Move as TheMove}
 use Rattle.fs_server.specs.declared.state.Server.{Server as Core}
 use Rattle.fs_world.specs.Direct as direct
-use Rattle.fs_world.specs.Carried.{Carries, GivesFirst, AreFirstOf, LinksCarry, between, downs_of, joined_at, post_of, seat_post}
-use Rattle.fs_world.specs.Packets.{Packets, first_untold}
+use Rattle.fs_world.specs.Carried.{Carries, GivesFirst, AreFirstOf, LinksCarry, between, downs_of, joined_at, post_of, state_post}
+use Rattle.fs_world.specs.Packets.{Packets, first_undelivered}
 use Rattle.fs_world.specs.Refusals.{HasNone, is_link_strange}
 use Rattle.fs_world.specs.Served as served
 use Rattle.fs_world.specs.Calls.{client_hears, server_heard}
-use Rattle.fs_world.specs.Served.{SeatStepped, ServerStepped, arrives, at_server, comes, do_at, join_at, server_step_at, server_told_at, tell, tell_at, told_at, turn_at, without_joined}
+use Rattle.fs_world.specs.Served.{SessionStepped, ServerStepped, arrives, at_server, comes, do_at, join_at, server_step_at, server_receive_packet_at, tell, tell_at, client_receive_packet_at, turn_at, without_joined}
 use Rattle.fs_world.specs.World.{step}
-use Rattle.fs_world.specs.declared.direct.Direct.{Direct as TheDirect}
+use Rattle.fs_world.specs.declared.direct.world.Direct.{Direct as TheDirect}
 use Rattle.fs_world.specs.declared.form.Form.{Form}
 use Rattle.fs_world.specs.declared.form.Form.TheVariants.{Direct, Served}
-use Rattle.fs_world.specs.declared.seat.Seat.{Seat}
-use Rattle.fs_world.specs.declared.served.Served.{Served as TheServed}
+use Rattle.fs_world.specs.declared.servers.session_state.SessionState.{SessionState}
+use Rattle.fs_world.specs.declared.servers.world.Served.{Served as TheServed}
 use Rattle.fs_world.proofs.HeardEach.{answers_in, heard_is, heard_notes, notes_all}
 use Rattle.fs_world.proofs.ServerEach.{heard_is as server_heard_is, heard_notes as noted_there, server_notes}
 use Rattle.fs_world.proofs.ServerNext.{events_in}
@@ -64,10 +64,10 @@ heard_plain : (h : Heard) (now k : ℕ) (answers : List Answer) (c : ClientCore)
 heard_plain h now k [] c = (quiet_plain h, tt)
 heard_plain h now k (a ∷ answers) c = answers_plain now k (a ∷ answers) c
 
-client_plain : (now : ℕ) (s : Session) (k : ℕ) (from : Option Peer) (h : Heard) (seat : Seat) (journal : List Item) (p : Packets) → AreFirstOf h.joined (downs_of k (Some seat)) → IsPlain (client_hears now s k from h seat journal p).outcome
-client_plain now s k from h seat journal p f =
-    let heard = answers_in k h.joined seat.down f in
-    subst (λ (x : SeatStepped). IsPlain x.outcome) (sym (heard_is s now k from h heard.0 seat journal p heard.1)) (heard_plain h now k heard.0 seat.client)
+client_plain : (now : ℕ) (s : Session) (k : ℕ) (from : Option Peer) (h : Heard) (state : SessionState) (journal : List Item) (p : Packets) → AreFirstOf h.joined (downs_of k (Some state)) → IsPlain (client_hears now s k from h state journal p).outcome
+client_plain now s k from h state journal p f =
+    let heard = answers_in k h.joined state.down f in
+    subst (λ (x : SessionStepped). IsPlain x.outcome) (sym (heard_is s now k from h heard.0 state journal p heard.1)) (heard_plain h now k heard.0 state.client)
 
 steps_plain : (now : ℕ) (es : List ServerEvent) (c : Core) → AllByRecursion (λ (n : Note). is_link_strange n ≡ false) (server_notes now es c)
 steps_plain now [] c = tt
@@ -85,13 +85,13 @@ server_plain w now k from h x who f =
 -- ## A packet is told
 
 module _ (w : TheServed) (now : ℕ) where
-  told_plain : (s : Session) (k : ℕ) (p : Packet) (o : Option Seat) → AreFirstOf (joined_at (seat_post o) (Server k) p) (downs_of k o) → IsPlain (told_at o now s k p w).outcome
+  told_plain : (s : Session) (k : ℕ) (p : Packet) (o : Option SessionState) → AreFirstOf (joined_at (state_post o) (Server k) p) (downs_of k o) → IsPlain (client_receive_packet_at o now s k p w).outcome
   told_plain s k p None f = (refl, tt)
-  told_plain s k p (Some seat) f =
-      let a = post_accepted seat.post (Server k) p in
-      client_plain now s k (heard_in (Server k) p) a.heard (record seat { post = a.links }) w.journal w.packets f
+  told_plain s k p (Some state) f =
+      let a = post_accepted state.post (Server k) p in
+      client_plain now s k (heard_in (Server k) p) a.heard (record state { post = a.links }) w.journal w.packets f
 
-  server_comes_plain : (k : ℕ) (from : Peer) (p : Packet) (c : Option Core) (o : Option Links) → AreFirstOf (joined_at o from p) (between w from (Server k)) → IsPlain (server_told_at c o now k from p w).outcome
+  server_comes_plain : (k : ℕ) (from : Peer) (p : Packet) (c : Option Core) (o : Option Links) → AreFirstOf (joined_at o from p) (between w from (Server k)) → IsPlain (server_receive_packet_at c o now k from p w).outcome
   server_comes_plain k from p None o f = (refl, tt)
   server_comes_plain k from p (Some c) None f = (refl, tt)
   server_comes_plain k from p (Some c) (Some post) f =
@@ -100,7 +100,7 @@ module _ (w : TheServed) (now : ℕ) where
 
   comes_plain : (from to : Peer) (p : Packet) → AreFirstOf (joined_at (post_of w to) from p) (between w from to) → IsPlain (comes now from to p w).outcome
   comes_plain from (Server k) p f = server_comes_plain k from p (slice_get w.servers k) (slice_get w.posts k) f
-  comes_plain (Server k) (Client s) p f = told_plain s k p (get w.seats s.0) f
+  comes_plain (Server k) (Client s) p f = told_plain s k p (get w.sessions s.0) f
   comes_plain (Client t) (Client s) p f = (refl, tt)
 
   arrives_plain : (from to : Peer) (o : Option Packet) → GivesFirst w from to o → IsPlain (arrives now from to o w).outcome
@@ -116,17 +116,17 @@ tell_plain w now k carry = go (slice_get w.packets.sent k) refl
 
 -- ## An event of a world with servers
 
-join_plain : (o : Option Seat) (s : Session) (w : TheServed) → IsPlain (join_at o s w).outcome
+join_plain : (o : Option SessionState) (s : Session) (w : TheServed) → IsPlain (join_at o s w).outcome
 join_plain None s w = (refl, tt)
-join_plain (Some seat) s w = (refl, tt)
+join_plain (Some state) s w = (refl, tt)
 
-do_plain : (o : Option Seat) (now : ℕ) (s : Session) (op : Op) (w : TheServed) → IsPlain (do_at o now s op w).outcome
+do_plain : (o : Option SessionState) (now : ℕ) (s : Session) (op : Op) (w : TheServed) → IsPlain (do_at o now s op w).outcome
 do_plain None now s op w = (refl, tt)
-do_plain (Some seat) now s op w = (refl, tt)
+do_plain (Some state) now s op w = (refl, tt)
 
-turn_plain : (o : Option Seat) (now : ℕ) (s : Session) (w : TheServed) → IsPlain (turn_at o now s w).outcome
+turn_plain : (o : Option SessionState) (now : ℕ) (s : Session) (w : TheServed) → IsPlain (turn_at o now s w).outcome
 turn_plain None now s w = (refl, tt)
-turn_plain (Some seat) now s w = (refl, tt)
+turn_plain (Some state) now s w = (refl, tt)
 
 server_step_plain : (c : Option Core) (o : Option Links) (k : ℕ) (turn : Bool) (now : ℕ) (e : ServerEvent) (w : TheServed) → IsPlain (server_step_at c o k turn now e w).outcome
 server_step_plain None o k turn now e w = (refl, tt)
@@ -134,11 +134,11 @@ server_step_plain (Some c) None k turn now e w = (refl, tt)
 server_step_plain (Some c) (Some post) k turn now e w = (refl, tt)
 
 served_plain : (w : TheServed) (now : ℕ) (what : What) → Carries w → IsPlain (served.step_of w now what).outcome
-served_plain w now (Join s) h = join_plain (get w.seats s.0) s w
-served_plain w now (Do s o) h = do_plain (get w.seats s.0) now s o w
-served_plain w now (Tell None) h = tell_plain w now (first_untold w.packets.told) h
+served_plain w now (Join s) h = join_plain (get w.sessions s.0) s w
+served_plain w now (Do s o) h = do_plain (get w.sessions s.0) now s o w
+served_plain w now (Tell None) h = tell_plain w now (first_undelivered w.packets.delivered) h
 served_plain w now (Tell (Some k)) h = tell_plain w now k h
-served_plain w now (Turn (Client s)) h = turn_plain (get w.seats s.0) now s w
+served_plain w now (Turn (Client s)) h = turn_plain (get w.sessions s.0) now s w
 served_plain w now (Turn (Server k)) h = server_step_plain (slice_get w.servers k) (slice_get w.posts k) k true now TheTurn w
 served_plain w now (Recall k field) h = server_step_plain (slice_get w.servers k) (slice_get w.posts k) k false now (TheRecall field) w
 served_plain w now (Move k prefix to) h = server_step_plain (slice_get w.servers k) (slice_get w.posts k) k false now (TheMove prefix to) w

@@ -21,7 +21,7 @@ use Rattle.fs_world.specs.Refusals.{AllFair, HasNone, IsFair, IsFairAnswer, None
 use Rattle.fs_schedule.specs.Skew.{IsTimely}
 use Rattle.fs_schedule.specs.Spelling.{FitsHead}
 use Rattle.fs_world.specs.World.{AllMayHappen, Run, first_run, first_world, more, run_of, run_on, step}
-use Rattle.fs_world.specs.declared.direct.Direct.{Direct as TheDirect}
+use Rattle.fs_world.specs.declared.direct.world.Direct.{Direct as TheDirect}
 use Rattle.fs_world.specs.declared.form.Form.{Form}
 use Rattle.fs_world.specs.declared.form.Form.TheVariants.{Direct, Served}
 use Rattle.fs_world.specs.Parts.{greatest_of}

@@ -39,18 +39,18 @@ use Rattle.fs_serial.proofs.Lists.SetAt.{get_here, set_same}
 use Rattle.fs_serial.specs.Refusals.{rows_in}
 use Rattle.fs_serial.specs.Joined.{rows_of_all}
 use Rattle.fs_world.specs.Calls.{without_message}
-use Rattle.fs_world.specs.Carried.{Carries, GivesFirst, AreFirstOf, between, downs_of, joined_at, post_of, seat_post}
+use Rattle.fs_world.specs.Carried.{Carries, GivesFirst, AreFirstOf, between, downs_of, joined_at, post_of, state_post}
 use Rattle.fs_world.specs.Order.{Tale, ended_in}
-use Rattle.fs_world.specs.Packets.{first_untold}
+use Rattle.fs_world.specs.Packets.{first_undelivered}
 use Rattle.fs_world.specs.Parts.{lines_in, lines_of}
-use Rattle.fs_world.specs.Served.{SeatStepped, ServerStepped, Stepped, arrives, at_server, comes, do_at, join_at, server_step_at, server_told, server_told_at, step_of, tell_at, told_at, turn_at, flying_without_each, with_seat, with_server, without_joined, without_up}
-use Rattle.fs_world.specs.Refusals.{IsFairAnswer, packet_told}
+use Rattle.fs_world.specs.Served.{SessionStepped, ServerStepped, Stepped, arrives, at_server, comes, do_at, join_at, server_step_at, server_receive_packet, server_receive_packet_at, step_of, tell_at, client_receive_packet_at, turn_at, flying_without_each, with_session, with_server, without_joined, without_up}
+use Rattle.fs_world.specs.Refusals.{IsFairAnswer, packet_delivered}
 use Rattle.fs_world.specs.World.{may_happen}
 use Rattle.fs_world.specs.declared.form.Form.TheVariants.{Served as ServedForm}
-use Rattle.fs_world.specs.declared.seat.Seat.{Seat}
-use Rattle.fs_world.specs.declared.served.Served.{Served}
-use Rattle.fs_world.proofs.HeardEach.{AreNext as AreAnswersNext, answers_in, heard_is as answers_heard, heard_notes as answers_noted, notes_all, seat_after}
-use Rattle.fs_world.proofs.LinkedSeats.{got_here}
+use Rattle.fs_world.specs.declared.servers.session_state.SessionState.{SessionState}
+use Rattle.fs_world.specs.declared.servers.world.Served.{Served}
+use Rattle.fs_world.proofs.HeardEach.{AreNext as AreAnswersNext, answers_in, heard_is as answers_heard, heard_notes as answers_noted, notes_all, session_after}
+use Rattle.fs_world.proofs.LinkedStates.{got_here}
 use Rattle.fs_world.proofs.Right.{Answers, IsRight, TakesEvent, event_right, plain_client, turn_right}
 use Rattle.fs_world.proofs.SerialLaws.{AsksOne, SerialLaws, all_exchanges, timed}
 use Rattle.fs_world.proofs.ServedEach.{few_up, later_next, no_second, one_holds, parts_at}
@@ -77,22 +77,22 @@ question_found k up m first = first ∙ ap (λ (j : ℕ). let o : Option (ℕ ×
 
 -- what a client notes of the next answers of a server, one after another
 notes_right : (answers : List Answer) (laws : SerialLaws) (count skew greatest : ℕ) (tale : Tale) (w : Served) (h : HoldsOf (timed laws) count skew greatest tale w) (now : ℕ) (within : greatest ≤ now + skew) (some : 1 ≤ count)
-    (s : Session) (seat : Seat) (at : get w.seats s.0 ≡ Some seat) (k : ℕ) (ok : Answers) → AreAnswersNext k answers seat.down → AllRight ok (notes_all now k answers seat.client)
-notes_right [] laws count skew greatest tale w h now within some s seat at k ok next = tt
-notes_right (a ∷ answers) laws count skew greatest tale w h now within some s seat at k ok next =
-    let own : lines_of w.term w.seats s ≡ lines_in w.term s (Some seat) = ap (lines_in w.term s) at in
-    let one = seat_after now k (a ∷ []) seat.post seat in
-    let between : Tale = record { told = tale.told ++ ended_in s (tale.leads s) (note.Client (answer_plan seat.client now k a).out.note ∷ []); leads = tale.leads } in
-    let v : Served = record w { seats = insert w.seats s.0 one } in (
+    (s : Session) (state : SessionState) (at : get w.sessions s.0 ≡ Some state) (k : ℕ) (ok : Answers) → AreAnswersNext k answers state.down → AllRight ok (notes_all now k answers state.client)
+notes_right [] laws count skew greatest tale w h now within some s state at k ok next = tt
+notes_right (a ∷ answers) laws count skew greatest tale w h now within some s state at k ok next =
+    let own : lines_of w.term w.sessions s ≡ lines_in w.term s (Some state) = ap (lines_in w.term s) at in
+    let one = session_after now k (a ∷ []) state.post state in
+    let between : Tale = record { told = tale.told ++ ended_in s (tale.leads s) (note.Client (answer_plan state.client now k a).out.note ∷ []); leads = tale.leads } in
+    let v : Served = record w { sessions = insert w.sessions s.0 one } in (
       subst (λ (n : Lines). IsRight ok (note.Client (answer_plan n.client now k a).out.note)) own
-          (plain_client ok (answer_plan (lines_of w.term w.seats s).client now k a).out.note
+          (plain_client ok (answer_plan (lines_of w.term w.sessions s).client now k a).out.note
           (laws.client_plain skew greatest now k a s (cluster_of h.replied (parts_of w)) (ap (λ (n : Lines). find (is_with k) n.down) own ∙ next.0) h.cluster)),
-      notes_right answers laws count skew (max greatest now) between v (heard_next (timed laws) count skew greatest tale w h now within some s seat at k a seat.post next.0) now (omega (arith, within)) some s one (got_here w.seats s one) k ok next.1,
+      notes_right answers laws count skew (max greatest now) between v (heard_next (timed laws) count skew greatest tale w h now within some s state at k a state.post next.0) now (omega (arith, within)) some s one (got_here w.sessions s one) k ok next.1,
     )
 
 -- what a server notes of the next messages of another one, one after another
 peers_right : (es : List ServerEvent) (laws : SerialLaws) (count skew greatest : ℕ) (tale : Tale) (p : Parts) (x : ServerStepped) (k : ℕ) (c : Core) (at : slice_get p.servers k ≡ Some c) (h : Holds (timed laws) count skew greatest tale (parts_at p k x))
-    (now : ℕ) (within : greatest ≤ now + skew) (i : ℕ) (ok : Answers) → AreNext k (Server i) es x.seats x.in_flight → AllRight ok (server_notes now es x.server)
+    (now : ℕ) (within : greatest ≤ now + skew) (i : ℕ) (ok : Answers) → AreNext k (Server i) es x.sessions x.in_flight → AllRight ok (server_notes now es x.server)
 peers_right [] laws count skew greatest tale p x k c at h now within i ok next = tt
 peers_right (e ∷ es) laws count skew greatest tale p x k c at h now within i ok next =
     let q = next.0 in
@@ -122,29 +122,29 @@ module _ (laws : SerialLaws) (count skew greatest : ℕ) (tale : Tale) (w : Serv
   module _ (what : What) where
     -- ## At a session
 
-    join_right : (s : Session) (o : Option Seat) → Right what (join_at o s w)
+    join_right : (s : Session) (o : Option SessionState) → Right what (join_at o s w)
     join_right s None = (record { plain = refl; fair = tt }, tt)
-    join_right s (Some seat) = (record { plain = refl; fair = tt }, tt)
+    join_right s (Some state) = (record { plain = refl; fair = tt }, tt)
 
-    do_right : (s : Session) (op : Op) (o : Option Seat) → Right what (do_at o now s op w)
+    do_right : (s : Session) (op : Op) (o : Option SessionState) → Right what (do_at o now s op w)
     do_right s op None = (record { plain = refl; fair = tt }, tt)
-    do_right s op (Some seat) = (record { plain = refl; fair = tt }, tt)
+    do_right s op (Some state) = (record { plain = refl; fair = tt }, tt)
 
-    turns_right : (s : Session) (o : Option Seat) → Right what (turn_at o now s w)
+    turns_right : (s : Session) (o : Option SessionState) → Right what (turn_at o now s w)
     turns_right s None = (record { plain = refl; fair = tt }, tt)
-    turns_right s (Some seat) = (turn_right (fair_at what w) seat.client now, tt)
+    turns_right s (Some state) = (turn_right (fair_at what w) state.client now, tt)
 
-    heard_right : (s : Session) (k : ℕ) (seat : Seat) (x : Heard) (answers : List Answer) → get w.seats s.0 ≡ Some seat → AreAnswersNext k answers seat.down → AllRight (fair_at what w) (answers_noted x now k answers seat.client)
-    heard_right s k seat x [] at next = quiet (fair_at what w) x
-    heard_right s k seat x (a ∷ answers) at next = notes_right (a ∷ answers) laws count skew greatest tale w h now within some s seat at k (fair_at what w) next
+    heard_right : (s : Session) (k : ℕ) (state : SessionState) (x : Heard) (answers : List Answer) → get w.sessions s.0 ≡ Some state → AreAnswersNext k answers state.down → AllRight (fair_at what w) (answers_noted x now k answers state.client)
+    heard_right s k state x [] at next = quiet (fair_at what w) x
+    heard_right s k state x (a ∷ answers) at next = notes_right (a ∷ answers) laws count skew greatest tale w h now within some s state at k (fair_at what w) next
 
-    told_right : (s : Session) (k : ℕ) (p : Packet) (o : Option Seat) → get w.seats s.0 ≡ o → AreFirstOf (joined_at (seat_post o) (Server k) p) (downs_of k o) → Right what (told_at o now s k p w)
+    told_right : (s : Session) (k : ℕ) (p : Packet) (o : Option SessionState) → get w.sessions s.0 ≡ o → AreFirstOf (joined_at (state_post o) (Server k) p) (downs_of k o) → Right what (client_receive_packet_at o now s k p w)
     told_right s k p None at f = (record { plain = refl; fair = tt }, tt)
-    told_right s k p (Some seat) at f =
-        let a = post_accepted seat.post (Server k) p in
-        let there : Seat = record seat { post = a.links } in
-        let heard = answers_in k a.heard.joined seat.down f in
-        subst (λ (x : SeatStepped). Right what (with_seat s x w)) (sym (answers_heard s now k (heard_in (Server k) p) a.heard heard.0 there w.journal w.packets heard.1)) (heard_right s k seat a.heard heard.0 at heard.2)
+    told_right s k p (Some state) at f =
+        let a = post_accepted state.post (Server k) p in
+        let there : SessionState = record state { post = a.links } in
+        let heard = answers_in k a.heard.joined state.down f in
+        subst (λ (x : SessionStepped). Right what (with_session s x w)) (sym (answers_heard s now k (heard_in (Server k) p) a.heard heard.0 there w.journal w.packets heard.1)) (heard_right s k state a.heard heard.0 at heard.2)
 
     -- ## At a server that there is
 
@@ -160,69 +160,72 @@ module _ (laws : SerialLaws) (count skew greatest : ℕ) (tale : Tale) (w : Serv
       event e there takes = event_right laws skew greatest now k c seen at h.cluster (clock (timed laws) count skew greatest tale (parts_of w) h now k c at) within (fair_after e) e there takes
 
       -- the event tells a packet of the session to this server
-      module _ (packet : Sent) (told_so : packet_told w what ≡ Some packet) (here : packet.to ≡ Server k) where
-        takes_log : (s : Session) (seat : Seat) (m : ClientMsg) → packet.from ≡ Client s → get w.seats s.0 ≡ Some seat → find (is_with k) seat.up ≡ Some (k, m) → TakesIt (FromClient s m)
-        takes_log s seat (Ship entries) from is first = λ n e gaps fair. (
-          record { packet = packet; told = told_so; by = s; sender = from; to = k; addressee = here; server = c; there = at; seat = seat; joined = is; entries = entries; first = first },
+      module _ (packet : Sent) (delivered_so : packet_delivered w what ≡ Some packet) (here : packet.to ≡ Server k) where
+        takes_log : (s : Session) (state : SessionState) (m : ClientMsg) → packet.from ≡ Client s → get w.sessions s.0 ≡ Some state → find (is_with k) state.up ≡ Some (k, m) → TakesIt (FromClient s m)
+        takes_log s state (Ship entries) from is first = λ n e gaps fair. (
+          record { packet = packet; delivered = delivered_so; by = s; sender = from; to = k; addressee = here; server = c; there = at; state = state; joined = is; entries = entries; first = first },
           fair,
         )
-        takes_log s seat (Ask items dir) from is first = tt
-        takes_log s seat (Renew pairs) from is first = tt
-        takes_log s seat (Release pairs) from is first = tt
-        takes_log s seat (Lead m) from is first = tt
+        takes_log s state (Ask items dir) from is first = tt
+        takes_log s state (Renew pairs) from is first = tt
+        takes_log s state (Release pairs) from is first = tt
+        takes_log s state (Lead m) from is first = tt
 
         -- it is one message at most
-        session_right : (s : Session) (x : Heard) (es : List ServerEvent) → packet.from ≡ Client s → AreNext k (Client s) es w.seats w.in_flight → (y : ServerStepped) → y.server ≡ c → y.in_flight ≡ flying_without_each k (Client s) es w.in_flight
+        session_right : (s : Session) (x : Heard) (es : List ServerEvent) → packet.from ≡ Client s → AreNext k (Client s) es w.sessions w.in_flight → (y : ServerStepped) → y.server ≡ c → y.in_flight ≡ flying_without_each k (Client s) es w.in_flight
             → AllRight (fair_at what (with_server k (taking_all k now es y) w).world) (heard_notes x now es c)
         session_right s x [] from next y is flies = quiet _ x
         session_right s x (e ∷ []) from next y is flies =
             let q = next.0 in
             let asked = FromClient s q.asked.1 in
             let right : IsRight (fair_after asked) (note.Server (step c now asked).out.note) =
-            event asked (question_there (timed laws) count skew greatest tale (parts_of w) h now k c at s q.seat q.asked q.there q.first) (takes_log s q.seat q.asked.1 from q.there (question_found k q.seat.up q.asked q.first)) in
+            event asked (question_there (timed laws) count skew greatest tale (parts_of w) h now k c at s q.state q.asked q.there q.first) (takes_log s q.state q.asked.1 from q.there (question_found k q.state.up q.asked q.first)) in
             let after : AllRight (fair_at what (with_server k (taking k now asked (record y { server = c; in_flight = w.in_flight })) w).world) (heard_notes x now (asked ∷ []) c) = (right, tt) in
-            let placed : record y { server = c; in_flight = w.in_flight } ≡ y = λ i. record y { server = sym is i; in_flight = sym flies i } in
+            let placed : record y { server = c; in_flight = w.in_flight } ≡ y =
+            λ i. record y { server = sym is i; in_flight = sym flies i } in
             subst (λ (f : ServerEvent). AllRight (fair_at what (with_server k (taking k now f y) w).world) (heard_notes x now (f ∷ []) c)) (sym q.is)
             (subst (λ (z : ServerStepped). AllRight (fair_at what (with_server k (taking k now asked z) w).world) (heard_notes x now (asked ∷ []) c)) placed after)
         session_right s x (e ∷ f ∷ es) from next y is flies =
             let q = next.0 in
             let r = next.1.0 in
-            let left : Seat = record q.seat { up = without_first (is_with k) q.seat.up } in
-            let same : left ≡ r.seat = some_is left r.seat (sym (ap (λ (o : Option Seat). get (without_up k o s.0 w.seats) s.0) q.there ∙ got_here w.seats s left) ∙ r.there) in
-            let own : lines_of w.term w.seats s ≡ lines_in w.term s (Some q.seat) = ap (lines_in w.term s) q.there in
-            let asks : AsksOne (lines_in w.term s (Some q.seat)) = subst AsksOne own (all_exchanges skew greatest c seen s (In-got w.servers k c at) h.cluster) in
-            let few = few_up q.seat.client q.seat.client.exchange q.seat.up (ends_of (lines_in w.term s (Some q.seat))).down asks.one in
-            absurd (no_second (is_with k) q.seat.up q.asked r.asked few q.first (ap (λ (z : Seat). find (is_with k) z.up) same ∙ r.first))
+            let left : SessionState = record q.state { up = without_first (is_with k) q.state.up } in
+            let same : left ≡ r.state = some_is left r.state (sym (ap (λ (o : Option SessionState). get (without_up k o s.0 w.sessions) s.0) q.there ∙ got_here w.sessions s left) ∙ r.there) in
+            let own : lines_of w.term w.sessions s ≡ lines_in w.term s (Some q.state) = ap (lines_in w.term s) q.there in
+            let asks : AsksOne (lines_in w.term s (Some q.state)) = subst AsksOne own (all_exchanges skew greatest c seen s (In-got w.servers k c at) h.cluster) in
+            let few = few_up q.state.client q.state.client.exchange q.state.up (ends_of (lines_in w.term s (Some q.state))).down asks.one in
+            absurd (no_second (is_with k) q.state.up q.asked r.asked few q.first
+            (ap (λ (z : SessionState). find (is_with k) z.up) same ∙ r.first))
 
-      told_server : (packet : Sent) (from : Peer) (p : Packet) → packet_told w what ≡ Some packet → packet.to ≡ Server k → packet.from ≡ from → AreFirstOf (post_accepted post from p).heard.joined (between w from (Server k))
-          → Right what (with_server k (server_told now k from p (at_server c post w)) w)
-      told_server packet from p told_so here is f =
+      server_receives : (packet : Sent) (from : Peer) (p : Packet) → packet_delivered w what ≡ Some packet → packet.to ≡ Server k → packet.from ≡ from → AreFirstOf (post_accepted post from p).heard.joined (between w from (Server k))
+          → Right what (with_server k (server_receive_packet now k from p (at_server c post w)) w)
+      server_receives packet from p delivered_so here is f =
           let a = post_accepted post from p in
           let js = a.heard.joined in
           let x : ServerStepped = without_joined k from js (record (at_server c post w) { post = a.links }) in
           let es = events_in w k from js f in
           subst (λ (y : ServerStepped). Right what (with_server k y w)) (sym (heard_is k now from (heard_in from p) a.heard es.0 x es.1)) (noted from is a.heard es.0 es.2 x refl (flying_alike k from js es.0 w.in_flight es.1))
         where
-          noted : (from : Peer) → packet.from ≡ from → (y : Heard) (es : List ServerEvent) → AreNext k from es w.seats w.in_flight → (x : ServerStepped) → x.server ≡ c → x.in_flight ≡ flying_without_each k from es w.in_flight
+          noted : (from : Peer) → packet.from ≡ from → (y : Heard) (es : List ServerEvent) → AreNext k from es w.sessions w.in_flight → (x : ServerStepped) → x.server ≡ c → x.in_flight ≡ flying_without_each k from es w.in_flight
               → AllRight (fair_at what (with_server k (taking_all k now es x) w).world) (heard_notes y now es x.server)
-          noted (Client s) is y es next x server flies = subst (λ (d : Core). AllRight (fair_at what (with_server k (taking_all k now es x) w).world) (heard_notes y now es d)) (sym server) (session_right packet told_so here s y es is next x server flies)
+          noted (Client s) is y es next x server flies = subst (λ (d : Core). AllRight (fair_at what (with_server k (taking_all k now es x) w).world) (heard_notes y now es d)) (sym server) (session_right packet delivered_so here s y es is next x server flies)
           noted (Server i) is y es next x server flies = subst (λ (d : Core). AllRight (fair_at what (with_server k (taking_all k now es x) w).world) (heard_notes y now es d)) (sym server) (others _ es next)
             where
               start : Holds (timed laws) count skew greatest tale (parts_at (parts_of w) k (at_server c post w))
               start = subst (λ (servers : List Core). Holds (timed laws) count skew greatest tale (record (parts_of w) { servers = servers })) (sym (set_same w.servers k c at)) h
 
-              others : (ok : Answers) (es : List ServerEvent) → AreNext k (Server i) es w.seats w.in_flight → AllRight ok (heard_notes y now es c)
+              others : (ok : Answers) (es : List ServerEvent) → AreNext k (Server i) es w.sessions w.in_flight → AllRight ok (heard_notes y now es c)
               others ok [] next = quiet ok y
               others ok (e ∷ es) next = peers_right (e ∷ es) laws count skew greatest tale (parts_of w) (at_server c post w) k c at start now within i ok next
 
     -- ## At any server
 
-    told_at_server : (k : ℕ) (packet : Sent) (from : Peer) (p : Packet) (c : Option Core) (post : Option Links) → packet_told w what ≡ Some packet → packet.to ≡ Server k → packet.from ≡ from → slice_get w.servers k ≡ c
-        → AreFirstOf (joined_at post from p) (between w from (Server k)) → Right what (server_told_at c post now k from p w)
-    told_at_server k packet from p (Some c) (Some post) told_so here is at f = told_server k c post at packet from p told_so here is f
-    told_at_server k packet from p (Some c) None told_so here is at f = (record { plain = refl; fair = tt }, tt)
-    told_at_server k packet from p None (Some post) told_so here is at f = (record { plain = refl; fair = tt }, tt)
-    told_at_server k packet from p None None told_so here is at f = (record { plain = refl; fair = tt }, tt)
+    receive_packet_at_server : (k : ℕ) (packet : Sent) (from : Peer) (p : Packet) (c : Option Core) (post : Option Links) → packet_delivered w what ≡ Some packet → packet.to ≡ Server k → packet.from ≡ from → slice_get w.servers k ≡ c
+        → AreFirstOf (joined_at post from p) (between w from (Server k)) → Right what (server_receive_packet_at c post now k from p w)
+    receive_packet_at_server k packet from p (Some c) (Some post) delivered_so here is at f =
+        server_receives k c post at packet from p delivered_so here is f
+    receive_packet_at_server k packet from p (Some c) None delivered_so here is at f = (record { plain = refl; fair = tt }, tt)
+    receive_packet_at_server k packet from p None (Some post) delivered_so here is at f = (record { plain = refl; fair = tt }, tt)
+    receive_packet_at_server k packet from p None None delivered_so here is at f = (record { plain = refl; fair = tt }, tt)
 
     turn_at_server : (k : ℕ) (c : Option Core) (post : Option Links) → slice_get w.servers k ≡ c → Right what (server_step_at c post k true now TheTurn w)
     turn_at_server k (Some c) (Some post) at = (event k c post at TheTurn tt tt, tt)
@@ -244,28 +247,28 @@ module _ (laws : SerialLaws) (count skew greatest : ℕ) (tale : Tale) (w : Serv
 
     -- ## A packet is told
 
-    comes_right : (packet : Sent) (from to : Peer) (p : Packet) → packet_told w what ≡ Some packet → packet.from ≡ from → packet.to ≡ to → AreFirstOf (joined_at (post_of w to) from p) (between w from to) → Right what (comes now from to p w)
-    comes_right packet (Client s) (Server k) p told_so of here f = told_at_server k packet (Client s) p (slice_get w.servers k) (slice_get w.posts k) told_so here of refl f
-    comes_right packet (Server j) (Server k) p told_so of here f = told_at_server k packet (Server j) p (slice_get w.servers k) (slice_get w.posts k) told_so here of refl f
-    comes_right packet (Server j) (Client s) p told_so of here f = told_right s j p (get w.seats s.0) refl f
-    comes_right packet (Client r) (Client s) p told_so of here f = (record { plain = refl; fair = tt }, tt)
+    comes_right : (packet : Sent) (from to : Peer) (p : Packet) → packet_delivered w what ≡ Some packet → packet.from ≡ from → packet.to ≡ to → AreFirstOf (joined_at (post_of w to) from p) (between w from to) → Right what (comes now from to p w)
+    comes_right packet (Client s) (Server k) p delivered_so of here f = receive_packet_at_server k packet (Client s) p (slice_get w.servers k) (slice_get w.posts k) delivered_so here of refl f
+    comes_right packet (Server j) (Server k) p delivered_so of here f = receive_packet_at_server k packet (Server j) p (slice_get w.servers k) (slice_get w.posts k) delivered_so here of refl f
+    comes_right packet (Server j) (Client s) p delivered_so of here f = told_right s j p (get w.sessions s.0) refl f
+    comes_right packet (Client r) (Client s) p delivered_so of here f = (record { plain = refl; fair = tt }, tt)
 
-    arrives_right : (packet : Sent) (p : Option Packet) → packet_told w what ≡ Some packet → GivesFirst w packet.from packet.to p → Right what (arrives now packet.from packet.to p w)
-    arrives_right packet None told_so f = (record { plain = refl; fair = tt }, tt)
-    arrives_right packet (Some p) told_so f = comes_right packet packet.from packet.to p told_so refl refl f
+    arrives_right : (packet : Sent) (p : Option Packet) → packet_delivered w what ≡ Some packet → GivesFirst w packet.from packet.to p → Right what (arrives now packet.from packet.to p w)
+    arrives_right packet None delivered_so f = (record { plain = refl; fair = tt }, tt)
+    arrives_right packet (Some p) delivered_so f = comes_right packet packet.from packet.to p delivered_so refl refl f
 
-    tell_right : Carries w → (o : Option Sent) (k : ℕ) → packet_told w what ≡ o → slice_get w.packets.sent k ≡ o → Right what (tell_at o now k w)
-    tell_right carry None k told_so at = (record { plain = refl; fair = tt }, tt)
-    tell_right carry (Some x) k told_so at = arrives_right x (packet_at x.bytes) told_so (carry x (In-got w.packets.sent k x at))
+    tell_right : Carries w → (o : Option Sent) (k : ℕ) → packet_delivered w what ≡ o → slice_get w.packets.sent k ≡ o → Right what (tell_at o now k w)
+    tell_right carry None k delivered_so at = (record { plain = refl; fair = tt }, tt)
+    tell_right carry (Some x) k delivered_so at = arrives_right x (packet_at x.bytes) delivered_so (carry x (In-got w.packets.sent k x at))
 
   -- ## Each event
 
   pub step_right : Carries w → (term : ℕ) (what : What) → may_happen (Servers count skew term) what ≡ true → Right what (step_of w now what)
-  step_right carry term (Join s) may = join_right (Join s) s (get w.seats s.0)
-  step_right carry term (Do s o) may = do_right (Do s o) s o (get w.seats s.0)
-  step_right carry term (Tell None) may = tell_right (Tell None) carry (slice_get w.packets.sent (first_untold w.packets.told)) (first_untold w.packets.told) refl refl
+  step_right carry term (Join s) may = join_right (Join s) s (get w.sessions s.0)
+  step_right carry term (Do s o) may = do_right (Do s o) s o (get w.sessions s.0)
+  step_right carry term (Tell None) may = tell_right (Tell None) carry (slice_get w.packets.sent (first_undelivered w.packets.delivered)) (first_undelivered w.packets.delivered) refl refl
   step_right carry term (Tell (Some k)) may = tell_right (Tell (Some k)) carry (slice_get w.packets.sent k) k refl refl
-  step_right carry term (Turn (Client s)) may = turns_right (Turn (Client s)) s (get w.seats s.0)
+  step_right carry term (Turn (Client s)) may = turns_right (Turn (Client s)) s (get w.sessions s.0)
   step_right carry term (Turn (Server k)) may = turn_at_server (Turn (Server k)) k (slice_get w.servers k) (slice_get w.posts k) refl
   step_right carry term (Recall k field) may = recall_at_server (Recall k field) k field (slice_get w.servers k) (slice_get w.posts k) refl
   step_right carry term (Move k prefix to) may =

@@ -23,9 +23,9 @@ use Rattle.fs_msg.specs.declared.note.Note.TheVariants as note
 use Rattle.fs_client.specs.Answers.{over_after}
 use Rattle.fs_client.specs.Laws.{over_told}
 use Rattle.fs_world.specs.Over.{AllCaused, Answered, Heard, HeardRefused, Said, all_said}
-use Rattle.fs_world.specs.Served.{Seats, with_down, with_down_at, with_downs}
-use Rattle.fs_world.specs.declared.seat.Seat.{Seat}
-use Rattle.fs_world.proofs.Seen.{seat_put}
+use Rattle.fs_world.specs.Served.{SessionStates, with_down, with_down_at, with_downs}
+use Rattle.fs_world.specs.declared.servers.session_state.SessionState.{SessionState}
+use Rattle.fs_world.proofs.Seen.{session_put}
 
 -- a server gave the answer, if it is one to a log
 abbrev pub WasGiven : List Said → Session → Answer → Type 0
@@ -33,12 +33,12 @@ WasGiven before by (Shipped count at) = In (Answered by count at) before
 WasGiven before by a = Unit {0}
 
 -- what stands at the session is known
-pub record IsKnown (before : List Said) (by : Session) (seat : Seat) : Type 0 where
-  pub over : (n : ℕ) → seat.client.over ≡ Some n → HeardRefused before by n
-  pub coming : (m : ℕ × Answer) → In m seat.down → WasGiven before by m.1
+pub record IsKnown (before : List Said) (by : Session) (state : SessionState) : Type 0 where
+  pub over : (n : ℕ) → state.client.over ≡ Some n → HeardRefused before by n
+  pub coming : (m : ℕ × Answer) → In m state.down → WasGiven before by m.1
 
-abbrev pub AreKnown : List Said → Seats → Type 0
-AreKnown before seats = (s : Session) (seat : Seat) → get seats s.0 ≡ Some seat → IsKnown before s seat
+abbrev pub AreKnown : List Said → SessionStates → Type 0
+AreKnown before sessions = (s : Session) (state : SessionState) → get sessions s.0 ≡ Some state → IsKnown before s state
 
 -- ## Behind more
 
@@ -53,24 +53,24 @@ given_behind : (before new : List Said) (by : Session) (a : Answer) → WasGiven
 given_behind before new by (Shipped count at) h = In-behind (Answered by count at) before new h
 given_behind before new by a h = tt
 
-known_more : (before new : List Said) (by : Session) (seat : Seat) → IsKnown before by seat → IsKnown (before ++ new) by seat
-known_more before new by seat h = record { over = λ n e. heard_more before new by n (h.over n e); coming = λ m i. given_more before new by m.1 (h.coming m i) }
+known_more : (before new : List Said) (by : Session) (state : SessionState) → IsKnown before by state → IsKnown (before ++ new) by state
+known_more before new by state h = record { over = λ n e. heard_more before new by n (h.over n e); coming = λ m i. given_more before new by m.1 (h.coming m i) }
 
-pub all_more : (before new : List Said) (seats : Seats) → AreKnown before seats → AreKnown (before ++ new) seats
-all_more before new seats h s seat at = known_more before new s seat (h s seat at)
+pub all_more : (before new : List Said) (sessions : SessionStates) → AreKnown before sessions → AreKnown (before ++ new) sessions
+all_more before new sessions h s state at = known_more before new s state (h s state at)
 
 pub caused_append : (before xs ys : List Said) → AllCaused before xs → AllCaused (before ++ xs) ys → AllCaused before (xs ++ ys)
 caused_append before [] ys h k = subst (λ (b : List Said). AllCaused b ys) (append-nil before) k
 caused_append before (x ∷ xs) ys h k = (h.0, caused_append (before ++ x ∷ []) xs ys h.1 (subst (λ (b : List Said). AllCaused b ys) (sym (append_assoc before (x ∷ []) xs)) k))
 
--- ## One seat changes
+-- ## One session's state changes
 
-pub known_put : (before : List Said) (seats : Seats) (s : Session) (next : Seat) → AreKnown before seats → IsKnown before s next → AreKnown before (insert seats s.0 next)
-known_put before seats s next h k x seat at = which (s.0 == x.0) refl (sym (seat_put seats s x next) ∙ at)
+pub known_put : (before : List Said) (sessions : SessionStates) (s : Session) (next : SessionState) → AreKnown before sessions → IsKnown before s next → AreKnown before (insert sessions s.0 next)
+known_put before sessions s next h k x state at = which (s.0 == x.0) refl (sym (session_put sessions s x next) ∙ at)
   where
-    which : (b : Bool) → (s.0 == x.0) ≡ b → cond b (Some next) (get seats x.0) ≡ Some seat → IsKnown before x seat
-    which true e is = let same : next ≡ seat = cc is in subst (λ (y : Session). IsKnown before y seat) (one_session s x e) (subst (λ (t : Seat). IsKnown before s t) same k)
-    which false e is = h x seat is
+    which : (b : Bool) → (s.0 == x.0) ≡ b → cond b (Some next) (get sessions x.0) ≡ Some state → IsKnown before x state
+    which true e is = let same : next ≡ state = cc is in subst (λ (y : Session). IsKnown before y state) (one_session s x e) (subst (λ (t : SessionState). IsKnown before s t) same k)
+    which false e is = h x state is
 
 -- ## Answers that go out
 
@@ -80,23 +80,23 @@ AreGiven now [] = Unit {0}
 AreGiven now ((Client x, msg.Answer a) ∷ rest) = WasGiven now x a × AreGiven now rest
 AreGiven now (m ∷ rest) = AreGiven now rest
 
-down_known_at : (now : List Said) (k : ℕ) (s : Session) (a : Answer) (seats : Seats) (o : Option Seat) → get seats s.0 ≡ o → WasGiven now s a → AreKnown now seats → AreKnown now (with_down_at o s.0 (k, a) seats)
-down_known_at now k s a seats None at g h = h
-down_known_at now k s a seats (Some seat) at g h =
-    let known = h s seat at in
-    known_put now seats s (record seat { down = seat.down ++ (k, a) ∷ [] }) h (record { over = known.over; coming = λ m i. coming m (In-append m seat.down ((k, a) ∷ []) i) known.coming })
+down_known_at : (now : List Said) (k : ℕ) (s : Session) (a : Answer) (sessions : SessionStates) (o : Option SessionState) → get sessions s.0 ≡ o → WasGiven now s a → AreKnown now sessions → AreKnown now (with_down_at o s.0 (k, a) sessions)
+down_known_at now k s a sessions None at g h = h
+down_known_at now k s a sessions (Some state) at g h =
+    let known = h s state at in
+    known_put now sessions s (record state { down = state.down ++ (k, a) ∷ [] }) h (record { over = known.over; coming = λ m i. coming m (In-append m state.down ((k, a) ∷ []) i) known.coming })
   where
-    coming : (m : ℕ × Answer) → In m seat.down ⊎ In m ((k, a) ∷ []) → ((m : ℕ × Answer) → In m seat.down → WasGiven now s m.1) → WasGiven now s m.1
+    coming : (m : ℕ × Answer) → In m state.down ⊎ In m ((k, a) ∷ []) → ((m : ℕ × Answer) → In m state.down → WasGiven now s m.1) → WasGiven now s m.1
     coming m (inl i) before = before m i
     coming m (inr (inl e)) before = subst (λ (x : ℕ × Answer). WasGiven now s x.1) (sym e) g
     coming m (inr (inr z)) before = absurd z
 
-pub downs_known : (now : List Said) (k : ℕ) (messages : List (Peer × Msg)) (seats : Seats) → AreGiven now messages → AreKnown now seats → AreKnown now (with_downs k messages seats)
-downs_known now k [] seats g h = h
-downs_known now k ((Client s, msg.Answer a) ∷ rest) seats g h = downs_known now k rest (with_down k (Client s, msg.Answer a) seats) g.1 (down_known_at now k s a seats (get seats s.0) refl g.0 h)
-downs_known now k ((Client s, msg.Client m) ∷ rest) seats g h = downs_known now k rest seats g h
-downs_known now k ((Client s, msg.Peer m) ∷ rest) seats g h = downs_known now k rest seats g h
-downs_known now k ((Server j, m) ∷ rest) seats g h = downs_known now k rest seats g h
+pub downs_known : (now : List Said) (k : ℕ) (messages : List (Peer × Msg)) (sessions : SessionStates) → AreGiven now messages → AreKnown now sessions → AreKnown now (with_downs k messages sessions)
+downs_known now k [] sessions g h = h
+downs_known now k ((Client s, msg.Answer a) ∷ rest) sessions g h = downs_known now k rest (with_down k (Client s, msg.Answer a) sessions) g.1 (down_known_at now k s a sessions (get sessions s.0) refl g.0 h)
+downs_known now k ((Client s, msg.Client m) ∷ rest) sessions g h = downs_known now k rest sessions g h
+downs_known now k ((Client s, msg.Peer m) ∷ rest) sessions g h = downs_known now k rest sessions g h
+downs_known now k ((Server j, m) ∷ rest) sessions g h = downs_known now k rest sessions g h
 
 pub given_behind_all : (before new : List Said) (messages : List (Peer × Msg)) → AreGiven new messages → AreGiven (before ++ new) messages
 given_behind_all before new [] g = tt

@@ -13,59 +13,61 @@ use Rattle.fs_serial.specs.Cluster.{Lines, in_flight_from, with_answer, with_sen
 use Rattle.fs_serial.specs.declared.in_flight.InFlight.{InFlight}
 use Rattle.fs_world.specs.Linked.{HasJoined}
 use Rattle.fs_world.specs.Parts.{lines_of}
-use Rattle.fs_world.specs.Served.{Seats, with_down, with_down_at, with_downs}
-use Rattle.fs_world.specs.declared.seat.Seat.{Seat}
+use Rattle.fs_world.specs.Served.{SessionStates, with_down, with_down_at, with_downs}
+use Rattle.fs_world.specs.declared.servers.session_state.SessionState.{SessionState}
 use Rattle.fs_world.proofs.Seen.{joined_still, lines_changed}
 use Rattle.fs_world.proofs.SeenRows.{AreSentTo, BringsOf, IsSentTo, brings_still}
 
 -- ## Who has joined stays
 
-down_joined_at : (k : ℕ) (o : Option Seat) (s : Session) (a : Answer) (seats : Seats) (x : Session) → HasJoined seats x → HasJoined (with_down_at o s.0 (k, a) seats) x
-down_joined_at k None s a seats x h = h
-down_joined_at k (Some seat) s a seats x h = joined_still seats s x (record seat { down = seat.down ++ (k, a) ∷ [] }) h
+down_joined_at : (k : ℕ) (o : Option SessionState) (s : Session) (a : Answer) (sessions : SessionStates) (x : Session) → HasJoined sessions x → HasJoined (with_down_at o s.0 (k, a) sessions) x
+down_joined_at k None s a sessions x h = h
+down_joined_at k (Some state) s a sessions x h = joined_still sessions s x (record state { down = state.down ++ (k, a) ∷ [] }) h
 
-pub down_joined : (k : ℕ) (m : Peer × Msg) (seats : Seats) (x : Session) → HasJoined seats x → HasJoined (with_down k m seats) x
-down_joined k (Client s, msg.Answer a) seats x h = down_joined_at k (get seats s.0) s a seats x h
-down_joined k (Client s, msg.Client m) seats x h = h
-down_joined k (Client s, msg.Peer m) seats x h = h
-down_joined k (Server j, m) seats x h = h
+pub down_joined : (k : ℕ) (m : Peer × Msg) (sessions : SessionStates) (x : Session) → HasJoined sessions x
+    → HasJoined (with_down k m sessions) x
+down_joined k (Client s, msg.Answer a) sessions x h = down_joined_at k (get sessions s.0) s a sessions x h
+down_joined k (Client s, msg.Client m) sessions x h = h
+down_joined k (Client s, msg.Peer m) sessions x h = h
+down_joined k (Server j, m) sessions x h = h
 
-pub downs_joined : (k : ℕ) (messages : List (Peer × Msg)) (seats : Seats) (x : Session) → HasJoined seats x → HasJoined (with_downs k messages seats) x
-downs_joined k [] seats x h = h
-downs_joined k (m ∷ rest) seats x h = downs_joined k rest (with_down k m seats) x (down_joined k m seats x h)
+pub downs_joined : (k : ℕ) (messages : List (Peer × Msg)) (sessions : SessionStates) (x : Session) → HasJoined sessions x → HasJoined (with_downs k messages sessions) x
+downs_joined k [] sessions x h = h
+downs_joined k (m ∷ rest) sessions x h = downs_joined k rest (with_down k m sessions) x (down_joined k m sessions x h)
 
-still_to : (seats later : Seats) → ((x : Session) → HasJoined seats x → HasJoined later x) → (m : Peer × Msg) → IsSentTo (HasJoined seats) m → IsSentTo (HasJoined later) m
-still_to seats later stay (Client s, msg.Answer a) h = stay s h
-still_to seats later stay (Server to, msg.Peer m) h = brings_still (HasJoined seats) (HasJoined later) stay m h
-still_to seats later stay (Client s, msg.Client m) h = absurd h
-still_to seats later stay (Client s, msg.Peer m) h = absurd h
-still_to seats later stay (Server to, msg.Client m) h = absurd h
-still_to seats later stay (Server to, msg.Answer m) h = absurd h
+still_to : (sessions later : SessionStates) → ((x : Session) → HasJoined sessions x → HasJoined later x) → (m : Peer × Msg) → IsSentTo (HasJoined sessions) m → IsSentTo (HasJoined later) m
+still_to sessions later stay (Client s, msg.Answer a) h = stay s h
+still_to sessions later stay (Server to, msg.Peer m) h = brings_still (HasJoined sessions) (HasJoined later) stay m h
+still_to sessions later stay (Client s, msg.Client m) h = absurd h
+still_to sessions later stay (Client s, msg.Peer m) h = absurd h
+still_to sessions later stay (Server to, msg.Client m) h = absurd h
+still_to sessions later stay (Server to, msg.Answer m) h = absurd h
 
-still_all : (seats later : Seats) → ((x : Session) → HasJoined seats x → HasJoined later x) → (messages : List (Peer × Msg)) → AreSentTo (HasJoined seats) messages → AreSentTo (HasJoined later) messages
-still_all seats later stay [] h = tt
-still_all seats later stay (m ∷ rest) h = (still_to seats later stay m h.0, still_all seats later stay rest h.1)
+still_all : (sessions later : SessionStates) → ((x : Session) → HasJoined sessions x → HasJoined later x) → (messages : List (Peer × Msg)) → AreSentTo (HasJoined sessions) messages → AreSentTo (HasJoined later) messages
+still_all sessions later stay [] h = tt
+still_all sessions later stay (m ∷ rest) h = (still_to sessions later stay m h.0, still_all sessions later stay rest h.1)
 
 -- ## One message more
 
-none_joined : (o : Option Seat) (seat : Seat) → o ≡ None → o ≡ Some seat → ⊥
-none_joined o seat none some = absurd (cc)
+none_joined : (o : Option SessionState) (state : SessionState) → o ≡ None → o ≡ Some state → ⊥
+none_joined o state none some = absurd (cc)
 
-answer_seen : (term k : ℕ) (seats : Seats) (s : Session) (a : Answer) (o : Option Seat) → get seats s.0 ≡ o → HasJoined seats s → lines_of term (with_down_at o s.0 (k, a) seats) ≡ with_answer k s a (lines_of term seats)
-answer_seen term k seats s a None at h = absurd (none_joined (get seats s.0) h.0 at h.1)
-answer_seen term k seats s a (Some seat) at h = lines_changed term seats s seat (record seat { down = seat.down ++ (k, a) ∷ [] }) (λ (n : Lines). let m : Lines = record n { down = n.down ++ (k, a) ∷ [] } in m) at refl
+answer_seen : (term k : ℕ) (sessions : SessionStates) (s : Session) (a : Answer) (o : Option SessionState) → get sessions s.0 ≡ o → HasJoined sessions s → lines_of term (with_down_at o s.0 (k, a) sessions) ≡ with_answer k s a (lines_of term sessions)
+answer_seen term k sessions s a None at h = absurd (none_joined (get sessions s.0) h.0 at h.1)
+answer_seen term k sessions s a (Some state) at h = lines_changed term sessions s state (record state { down = state.down ++ (k, a) ∷ [] }) (λ (n : Lines). let m : Lines = record n { down = n.down ++ (k, a) ∷ [] } in m) at refl
 
-down_seen : (term k : ℕ) (seats : Seats) (m : Peer × Msg) (rest : List (Peer × Msg)) → IsSentTo (HasJoined seats) m → with_sent k rest (lines_of term (with_down k m seats)) ≡ with_sent k (m ∷ rest) (lines_of term seats)
-down_seen term k seats (Client s, msg.Answer a) rest h = ap (with_sent k rest) (answer_seen term k seats s a (get seats s.0) refl h)
-down_seen term k seats (Client s, msg.Client m) rest h = refl
-down_seen term k seats (Client s, msg.Peer m) rest h = refl
-down_seen term k seats (Server j, m) rest h = refl
+down_seen : (term k : ℕ) (sessions : SessionStates) (m : Peer × Msg) (rest : List (Peer × Msg)) → IsSentTo (HasJoined sessions) m → with_sent k rest (lines_of term (with_down k m sessions)) ≡ with_sent k (m ∷ rest) (lines_of term sessions)
+down_seen term k sessions (Client s, msg.Answer a) rest h =
+    ap (with_sent k rest) (answer_seen term k sessions s a (get sessions s.0) refl h)
+down_seen term k sessions (Client s, msg.Client m) rest h = refl
+down_seen term k sessions (Client s, msg.Peer m) rest h = refl
+down_seen term k sessions (Server j, m) rest h = refl
 
 -- ## All of them
 
-pub sends_seen : (term k : ℕ) (messages : List (Peer × Msg)) (seats : Seats) → AreSentTo (HasJoined seats) messages → lines_of term (with_downs k messages seats) ≡ with_sent k messages (lines_of term seats)
-sends_seen term k [] seats h = refl
-sends_seen term k (m ∷ rest) seats h = sends_seen term k rest (with_down k m seats) (still_all seats (with_down k m seats) (λ x i. down_joined k m seats x i) rest h.1) ∙ down_seen term k seats m rest h.0
+pub sends_seen : (term k : ℕ) (messages : List (Peer × Msg)) (sessions : SessionStates) → AreSentTo (HasJoined sessions) messages → lines_of term (with_downs k messages sessions) ≡ with_sent k messages (lines_of term sessions)
+sends_seen term k [] sessions h = refl
+sends_seen term k (m ∷ rest) sessions h = sends_seen term k rest (with_down k m sessions) (still_all sessions (with_down k m sessions) (λ x i. down_joined k m sessions x i) rest h.1) ∙ down_seen term k sessions m rest h.0
 
 -- those to servers bring rows of these sessions
 pub flying_of_these : (these : Session → Type 0) (k : ℕ) (messages : List (Peer × Msg)) → AreSentTo these messages → (f : InFlight) → In f (in_flight_from k messages) → BringsOf these f.message

@@ -21,9 +21,9 @@ use Rattle.fs_serial.specs.Seen.{ClusterHolds, ends_of, world_of}
 use Rattle.fs_serial.specs.Settled.{Settled}
 use Rattle.fs_serial.specs.World.{WorldHolds, settled_at}
 use Rattle.fs_world.specs.Coming.{IsTold}
-use Rattle.fs_world.specs.Order.{Agrees, AreNumberedFrom, HasNumberOf, IsInSessionOrder, Tale, Told, items_of, same_actor, told_to}
+use Rattle.fs_world.specs.Order.{Agrees, AreNumberedFrom, HasNumberOf, IsInSessionOrder, Tale, ReplyGiven, items_of, same_actor, told_to}
 use Rattle.fs_world.specs.Parts.{ServedHold, lines_of, replied_in, seen as seen_by}
-use Rattle.fs_world.specs.declared.served.Served.{Served}
+use Rattle.fs_world.specs.declared.servers.world.Served.{Served}
 use Rattle.fs_world.proofs.Fine.{AllFine}
 use Rattle.fs_world.proofs.Numbered.{kept, number_of_one}
 use Rattle.fs_world.proofs.Seen.{turned}
@@ -31,7 +31,7 @@ use Rattle.fs_world.proofs.Serial.{AllAsk}
 use Rattle.fs_world.proofs.SerialLaws.{SerialLaws, timed}
 use Rattle.fs_world.proofs.ServedHolds.{a_server, cluster_of}
 use Rattle.fs_world.proofs.SessionSteps.{HoldsOf, parts_of}
-use Rattle.fs_world.proofs.Told.{among_replies}
+use Rattle.fs_world.proofs.RepliesGiven.{among_replies}
 
 -- ## The items of one actor
 
@@ -78,7 +78,7 @@ module _ (laws : SerialLaws) (count skew greatest : ℕ) (tale : Tale) (w : Serv
   holds = let all : ClusterHolds skew greatest seen = h.cluster in all.parts server.0 server.1
 
   abbrev settled : Session → Settled
-  settled s = settled_at s (ends_of (lines_of w.term w.seats s))
+  settled s = settled_at s (ends_of (lines_of w.term w.sessions s))
 
   -- the session's items, and behind them what is in its log
   told_numbered : (s : Session) → AreNumberedFrom 1 (all_items s w.journal (settled s).log)
@@ -94,10 +94,10 @@ module _ (laws : SerialLaws) (count skew greatest : ℕ) (tale : Tale) (w : Serv
       let own : is_session s i.by ≡ true = ap (is_session s) by ∙ itself s.0 in
       subst (In i) (holds.all.sessions s).replies (In-front i (items_by s w.journal) (map (item_of s) (settled s).log) (kept (λ (i : Item). is_session s i.by) w.journal i own there))
 
-  agreeing : (t : Told) (i : Item) → In t tale.told → In i w.journal → HasNumberOf i t → Agrees i t
+  agreeing : (t : ReplyGiven) (i : Item) → In t tale.told → In i w.journal → HasNumberOf i t → Agrees i t
   agreeing t i m there has =
       let s = t.session in
-      let found = among_replies (lines_of w.term w.seats) h.replied tale h.answered t m in
+      let found = among_replies (lines_of w.term w.sessions) h.replied tale h.answered t m in
       let same : i ≡ found.0 = number_of_one 1 (h.replied s) i found.0 (subst (AreNumberedFrom 1) (holds.all.sessions s).replies (told_numbered s)) (in_told s i there has.by) found.1 (has.n ∙ sym found.2.n) in
       subst (λ (x : Item). Agrees x t) (sym same) found.3
 
@@ -117,5 +117,5 @@ module _ (laws : SerialLaws) (count skew greatest : ℕ) (tale : Tale) (w : Serv
   pub served_parts : ServedHold skew greatest tale.told w
   served_parts = record {
     parts = subst (λ (replied : Session → List Item). ClusterHolds skew greatest (seen_by replied w)) replied_is h.cluster;
-    replies = λ x. subst (λ (is : List Item). IsTold x (lines_of w.term w.seats x) is (told_to x tale.told)) (sym (holds.all.sessions x).replies) (h.answered x).told;
+    replies = λ x. subst (λ (is : List Item). IsTold x (lines_of w.term w.sessions x) is (told_to x tale.told)) (sym (holds.all.sessions x).replies) (h.answered x).told;
   }

@@ -18,8 +18,8 @@ use Rattle.fs_server.specs.declared.event.ServerEvent.TheVariants.{FromClient, F
 use Rattle.fs_server.specs.declared.state.Server.{Server as Core}
 use Rattle.fs_world.specs.Calls.{without_message}
 use Rattle.fs_world.specs.Order.{Tale}
-use Rattle.fs_world.specs.Served.{Seats, ServerStepped, flying_without, seats_without, with_downs, without_joined, without_up}
-use Rattle.fs_world.specs.declared.seat.Seat.{Seat}
+use Rattle.fs_world.specs.Served.{SessionStates, ServerStepped, flying_without, sessions_without, with_downs, without_joined, without_up}
+use Rattle.fs_world.specs.declared.servers.session_state.SessionState.{SessionState}
 use Rattle.fs_world.proofs.SerialLaws.{EventLaws}
 use Rattle.fs_world.proofs.ServedHolds.{Holds, Parts, holds_later}
 use Rattle.fs_world.proofs.ServerEach.{sent_at, taking, taking_all}
@@ -28,42 +28,42 @@ use Rattle.fs_world.proofs.ServerNext.{AreNext, IsNext, next_still, step_crossed
 
 -- the parts of the world while its server of number k is so far
 abbrev pub parts_at : Parts → ℕ → ServerStepped → Parts
-parts_at p k x = record p { servers = slice_set p.servers k x.server; seats = x.seats; in_flight = x.in_flight; journal = x.journal }
+parts_at p k x = record p { servers = slice_set p.servers k x.server; sessions = x.sessions; in_flight = x.in_flight; journal = x.journal }
 
 module _ (laws : EventLaws) (count skew greatest : ℕ) (tale : Tale) (p : Parts) (x : ServerStepped) (k : ℕ) (c : Core) (at : slice_get p.servers k ≡ Some c) (h : Holds laws count skew greatest tale (parts_at p k x)) (now : ℕ) where
   here : slice_get (slice_set p.servers k x.server) k ≡ Some x.server
   here = get_here p.servers k c x.server at
 
-  abbrev stepped : ServerEvent → Seats → List InFlight → List Core → Parts
-  stepped e before in_flight servers = record p { servers = servers; seats = with_downs k (sent_at now e x.server) before; in_flight = in_flight ++ in_flight_from k (sent_at now e x.server); journal = x.journal ++ (step x.server now e).out.admitted }
+  abbrev stepped : ServerEvent → SessionStates → List InFlight → List Core → Parts
+  stepped e before in_flight servers = record p { servers = servers; sessions = with_downs k (sent_at now e x.server) before; in_flight = in_flight ++ in_flight_from k (sent_at now e x.server); journal = x.journal ++ (step x.server now e).out.admitted }
 
   -- the server is set once
-  set_once : (e : ServerEvent) (before : Seats) (in_flight : List InFlight) → Holds laws count skew (max greatest now) tale (stepped e before in_flight (slice_set (slice_set p.servers k x.server) k (step x.server now e).server))
+  set_once : (e : ServerEvent) (before : SessionStates) (in_flight : List InFlight) → Holds laws count skew (max greatest now) tale (stepped e before in_flight (slice_set (slice_set p.servers k x.server) k (step x.server now e).server))
       → Holds laws count skew (max greatest now) tale (stepped e before in_flight (slice_set p.servers k (step x.server now e).server))
   set_once e before in_flight g = subst (λ (ss : List Core). Holds laws count skew (max greatest now) tale (stepped e before in_flight ss)) (set_twice p.servers k x.server (step x.server now e).server) g
 
   -- the next message is taken off, and the server takes its step
-  pub one_holds : (from : Peer) (e : ServerEvent) → IsNext k from e x.seats x.in_flight → Holds laws count skew (max greatest now) tale (parts_at p k (taking k now e (without_message k from x)))
+  pub one_holds : (from : Peer) (e : ServerEvent) → IsNext k from e x.sessions x.in_flight → Holds laws count skew (max greatest now) tale (parts_at p k (taking k now e (without_message k from x)))
   one_holds (Client s) e q =
       subst (λ (f : ServerEvent). Holds laws count skew (max greatest now) tale (parts_at p k (taking k now f (without_message k (Client s) x)))) (sym q.is)
-      (subst (λ (o : Option Seat). Holds laws count skew (max greatest now) tale (parts_at p k (taking k now (FromClient s q.asked.1) (record x { seats = without_up k o s.0 x.seats })))) (sym q.there)
-      (set_once (FromClient s q.asked.1) (without_up k (Some q.seat) s.0 x.seats) x.in_flight
-      (message_holds laws count skew greatest tale (parts_at p k x) h now k x.server here s q.seat q.asked q.there q.first)))
+      (subst (λ (o : Option SessionState). Holds laws count skew (max greatest now) tale (parts_at p k (taking k now (FromClient s q.asked.1) (record x { sessions = without_up k o s.0 x.sessions })))) (sym q.there)
+      (set_once (FromClient s q.asked.1) (without_up k (Some q.state) s.0 x.sessions) x.in_flight
+      (message_holds laws count skew greatest tale (parts_at p k x) h now k x.server here s q.state q.asked q.there q.first)))
   one_holds (Server i) e q =
       subst (λ (f : ServerEvent). Holds laws count skew (max greatest now) tale (parts_at p k (taking k now f (without_message k (Server i) x)))) (sym q.is)
-      (set_once (FromPeer i q.flies.message) x.seats (flying_without k (Server i) x.in_flight)
-      (server_holds laws count skew greatest tale (parts_at p k x) h now k x.server here (FromPeer i q.flies.message) x.seats refl (λ t i. i)
+      (set_once (FromPeer i q.flies.message) x.sessions (flying_without k (Server i) x.in_flight)
+      (server_holds laws count skew greatest tale (parts_at p k x) h now k x.server here (FromPeer i q.flies.message) x.sessions refl (λ t i. i)
       (flying_there laws count skew greatest tale (parts_at p k x) h now k x.server here i q.flies q.first)
       (flying_of_joined laws count skew greatest tale (parts_at p k x) h now k x.server here i q.flies q.first)))
 
 -- all of them: what holds then, and the steps with the messages taken off first
-pub later_next : (k : ℕ) (from : Peer) (now : ℕ) (e : ServerEvent) (es : List ServerEvent) (x : ServerStepped) → AreNext k from (e ∷ es) x.seats x.in_flight
-    → AreNext k from es (taking k now e (without_message k from x)).seats (taking k now e (without_message k from x)).in_flight
+pub later_next : (k : ℕ) (from : Peer) (now : ℕ) (e : ServerEvent) (es : List ServerEvent) (x : ServerStepped) → AreNext k from (e ∷ es) x.sessions x.in_flight
+    → AreNext k from es (taking k now e (without_message k from x)).sessions (taking k now e (without_message k from x)).in_flight
 later_next k from now e es x next =
-    next_still k from es (sent_at now e x.server) (seats_without k from x.seats) (flying_without k from x.in_flight) (in_flight_from k (sent_at now e x.server)) next.1
+    next_still k from es (sent_at now e x.server) (sessions_without k from x.sessions) (flying_without k from x.in_flight) (in_flight_from k (sent_at now e x.server)) next.1
 
 pub all_hold : (es : List ServerEvent) (laws : EventLaws) (count skew greatest : ℕ) (tale : Tale) (p : Parts) (x : ServerStepped) (k : ℕ) (c : Core) → slice_get p.servers k ≡ Some c → Holds laws count skew greatest tale (parts_at p k x)
-    → (now : ℕ) (from : Peer) → AreNext k from es x.seats x.in_flight → Holds laws count skew (max greatest now) tale (parts_at p k (taking_all k now es (without_joined k from es x)))
+    → (now : ℕ) (from : Peer) → AreNext k from es x.sessions x.in_flight → Holds laws count skew (max greatest now) tale (parts_at p k (taking_all k now es (without_joined k from es x)))
 all_hold [] laws count skew greatest tale p x k c at h now from next = holds_later laws count skew greatest tale (parts_at p k x) h (max greatest now) (omega arith)
 all_hold (e ∷ es) laws count skew greatest tale p x k c at h now from next =
     let y : ServerStepped = without_message k from x in

@@ -14,36 +14,36 @@ use Rattle.fs_serial.specs.Cluster.{CanCome, ClientEvent, Cluster, Lines, after_
 use Rattle.fs_serial.specs.World.{pushed, told_by, with_told}
 use Rattle.fs_serial.specs.declared.in_flight.InFlight.{InFlight}
 use Rattle.fs_world.specs.Linked.{AreOfJoined, HasJoined}
-use Rattle.fs_world.specs.Order.{Leads, Tale, Told}
+use Rattle.fs_world.specs.Order.{Leads, Tale, ReplyGiven}
 use Rattle.fs_world.specs.Parts.{lines_in, lines_of}
-use Rattle.fs_world.specs.Served.{Seats, first_seat}
-use Rattle.fs_world.specs.declared.seat.Seat.{Seat}
+use Rattle.fs_world.specs.Served.{SessionStates, first_session_state}
+use Rattle.fs_world.specs.declared.servers.session_state.SessionState.{SessionState}
 use Rattle.fs_world.proofs.Fine.{AllFine, MayBeFine, fine_pushed}
 use Rattle.fs_world.proofs.Seen.{joined_still, lines_joined, lines_put, lines_same}
 use Rattle.fs_world.proofs.SerialLaws.{EventLaws}
 use Rattle.fs_world.proofs.Coming.{led_after, led_then}
-use Rattle.fs_world.proofs.Told.{AllTelling, TellsOf, told_more}
+use Rattle.fs_world.proofs.RepliesGiven.{AllTelling, TellsOf, told_more}
 use Rattle.fs_world.proofs.SeenRows.{BringsOf, brings_still}
 
--- what a world has that servers and sessions know of: so many servers, the seats, the messages between servers, the journal
+-- what a world has that servers and sessions know of: so many servers, the sessions, the messages between servers, the journal
 pub record Parts : Type 0 where
   pub term : ℕ
   pub servers : List Server
-  pub seats : Seats
+  pub sessions : SessionStates
   pub in_flight : List InFlight
   pub journal : List Item
 
 abbrev pub cluster_of : (Session → List Item) → Parts → Cluster
-cluster_of replied p = record { servers = p.servers; in_flight = p.in_flight; journal = p.journal; replied = replied; lines = lines_of p.term p.seats }
+cluster_of replied p = record { servers = p.servers; in_flight = p.in_flight; journal = p.journal; replied = replied; lines = lines_of p.term p.sessions }
 
 -- of these parts of a world of so many servers in which this was told, where no reading was greater
 pub record Holds (laws : EventLaws) (count skew greatest : ℕ) (tale : Tale) (p : Parts) : Type 0 where
   pub replied : Session → List Item
   pub cluster : laws.Holds skew greatest (cluster_of replied p)
   pub many : length p.servers ≡ count
-  pub rows : (s : Server) → In s p.servers → AreOfJoined p.seats s.rows
-  pub parcels : (f : InFlight) → In f p.in_flight → BringsOf (HasJoined p.seats) f.message
-  pub answered : AllTelling (lines_of p.term p.seats) replied tale
+  pub rows : (s : Server) → In s p.servers → AreOfJoined p.sessions s.rows
+  pub parcels : (f : InFlight) → In f p.in_flight → BringsOf (HasJoined p.sessions) f.message
+  pub answered : AllTelling (lines_of p.term p.sessions) replied tale
   pub items : AllFine p.journal
 
 -- there is a server
@@ -58,8 +58,8 @@ untold tale = record { told = tale.told ++ []; leads = tale.leads }
 pub holds_untold : (laws : EventLaws) (count skew greatest : ℕ) (tale : Tale) (p : Parts) → Holds laws count skew greatest tale p → Holds laws count skew greatest (untold tale) p
 holds_untold laws count skew greatest tale p h = subst (λ ts. let t : Tale = record { told = ts; leads = tale.leads } in Holds laws count skew greatest t p) (sym (append-nil tale.told)) h
 
-abbrev pub with_seats : Seats → Parts → Parts
-with_seats seats p = record p { seats = seats }
+abbrev pub with_sessions : SessionStates → Parts → Parts
+with_sessions sessions p = record p { sessions = sessions }
 
 module _ (laws : EventLaws) (count skew greatest : ℕ) (tale : Tale) (p : Parts) (h : Holds laws count skew greatest tale p) where
   pub holds_later : (later : ℕ) → greatest ≤ later → Holds laws count skew later tale p
@@ -73,73 +73,75 @@ module _ (laws : EventLaws) (count skew greatest : ℕ) (tale : Tale) (p : Parts
     items = h.items;
   }
 
-  -- other seats, with the same lines
-  pub holds_seated : (seats : Seats) → ((x : Session) → HasJoined p.seats x → HasJoined seats x) → lines_of p.term seats ≡ lines_of p.term p.seats → Holds laws count skew greatest tale (with_seats seats p)
-  holds_seated seats stay same = record {
+  -- other sessions, with the same lines
+  pub holds_with_sessions : (sessions : SessionStates) → ((x : Session) → HasJoined p.sessions x → HasJoined sessions x) → lines_of p.term sessions ≡ lines_of p.term p.sessions → Holds laws count skew greatest tale (with_sessions sessions p)
+  holds_with_sessions sessions stay same = record {
     replied = h.replied;
     cluster = subst (λ (lines : Session → Lines). laws.Holds skew greatest (record { servers = p.servers; in_flight = p.in_flight; journal = p.journal; replied = h.replied; lines = lines })) (sym same) h.cluster;
     many = h.many;
     rows = λ s i row j. stay row.session (h.rows s i row j);
-    parcels = λ f i. brings_still (HasJoined p.seats) (HasJoined seats) stay f.message (h.parcels f i);
+    parcels = λ f i. brings_still (HasJoined p.sessions) (HasJoined sessions) stay f.message (h.parcels f i);
     answered = subst (λ (lines : Session → Lines). AllTelling lines h.replied tale) (sym same) h.answered;
     items = h.items;
   }
 
   -- a session joins
-  pub holds_joined : (s : Session) → get p.seats s.0 ≡ None → Holds laws count skew greatest tale (with_seats (insert p.seats s.0 (first_seat p.term s)) p)
-  holds_joined s none = holds_seated (insert p.seats s.0 (first_seat p.term s)) (λ x i. joined_still p.seats s x (first_seat p.term s) i) (lines_joined p.term p.seats s none)
+  pub holds_joined : (s : Session) → get p.sessions s.0 ≡ None → Holds laws count skew greatest tale (with_sessions (insert p.sessions s.0 (first_session_state p.term s)) p)
+  holds_joined s none = holds_with_sessions (insert p.sessions s.0 (first_session_state p.term s)) (λ x i. joined_still p.sessions s x (first_session_state p.term s) i) (lines_joined p.term p.sessions s none)
 
-  module _ (s : Session) (seat : Seat) (at : get p.seats s.0 ≡ Some seat) where
+  module _ (s : Session) (state : SessionState) (at : get p.sessions s.0 ≡ Some state) where
     -- nothing but its links changes at a session
-    pub holds_posted : (next : Seat) → lines_in p.term s (Some next) ≡ lines_in p.term s (Some seat) → Holds laws count skew greatest tale (with_seats (insert p.seats s.0 next) p)
-    holds_posted next e = holds_seated (insert p.seats s.0 next) (λ x i. joined_still p.seats s x next i) (lines_same p.term p.seats s seat next at e)
+    pub holds_posted : (next : SessionState) → lines_in p.term s (Some next) ≡ lines_in p.term s (Some state) → Holds laws count skew greatest tale (with_sessions (insert p.sessions s.0 next) p)
+    holds_posted next e = holds_with_sessions (insert p.sessions s.0 next) (λ x i. joined_still p.sessions s x next i) (lines_same p.term p.sessions s state next at e)
 
     -- ## A client's event
 
-    pub own : lines_of p.term p.seats s ≡ lines_in p.term s (Some seat)
+    pub own : lines_of p.term p.sessions s ≡ lines_in p.term s (Some state)
     own = ap (lines_in p.term s) at
 
     -- the session's lines after a plan
     abbrev pub planned : {N : Type 0} → List (ℕ × Answer) → Plan N → Lines
-    planned rest plan = record { client = committed plan.ready seat.client; up = pushed plan.out.send seat.up; down = rest }
+    planned rest plan = record { client = committed plan.ready state.client; up = pushed plan.out.send state.up; down = rest }
 
     abbrev after : Option Item → (Session → List Item) → (Session → Lines) → Cluster
     after admitted replied lines = record { servers = p.servers; in_flight = p.in_flight; journal = pushed admitted p.journal; replied = replied; lines = lines }
 
-    plan_seen : {N : Type 0} (rest : List (ℕ × Answer)) (plan : Plan N) (next : Seat) → lines_in p.term s (Some next) ≡ planned rest plan
-        → after_plan s rest plan (cluster_of h.replied p) ≡ after plan.out.admitted (with_told s (told_by s plan.ready.change plan.out.admitted) h.replied) (lines_of p.term (insert p.seats s.0 next))
+    plan_seen : {N : Type 0} (rest : List (ℕ × Answer)) (plan : Plan N) (next : SessionState)
+        → lines_in p.term s (Some next) ≡ planned rest plan
+        → after_plan s rest plan (cluster_of h.replied p) ≡ after plan.out.admitted (with_told s (told_by s plan.ready.change plan.out.admitted) h.replied) (lines_of p.term (insert p.sessions s.0 next))
     plan_seen rest plan next e =
         ap (λ (lines : Session → Lines). after plan.out.admitted (with_told s (told_by s plan.ready.change plan.out.admitted) h.replied) lines)
-        (ap (λ (n : Lines). with_lines s (record { client = committed plan.ready n.client; up = pushed plan.out.send n.up; down = rest }) (lines_of p.term p.seats)) own
-        ∙ ap (λ (n : Lines). with_lines s n (lines_of p.term p.seats)) (sym e)
-        ∙ sym (lines_put p.term p.seats s next))
+        (ap (λ (n : Lines). with_lines s (record { client = committed plan.ready n.client; up = pushed plan.out.send n.up; down = rest }) (lines_of p.term p.sessions)) own
+        ∙ ap (λ (n : Lines). with_lines s n (lines_of p.term p.sessions)) (sym e)
+        ∙ sym (lines_put p.term p.sessions s next))
 
     module _ (now : ℕ) (within : laws.Within skew greatest now) where
-      abbrev pub with_plan : Seat → Option Item → Parts
-      with_plan next admitted = record p { seats = insert p.seats s.0 next; journal = pushed admitted p.journal }
+      abbrev pub with_plan : SessionState → Option Item → Parts
+      with_plan next admitted = record p { sessions = insert p.sessions s.0 next; journal = pushed admitted p.journal }
 
-      pub client_holds : {N : Type 0} (event : ClientEvent) (rest : List (ℕ × Answer)) (plan : Plan N) (next : Seat) (new : List Told) (leads : Leads) → after_client s now event (cluster_of h.replied p) ≡ after_plan s rest plan (cluster_of h.replied p)
+      pub client_holds : {N : Type 0} (event : ClientEvent) (rest : List (ℕ × Answer)) (plan : Plan N) (next : SessionState) (new : List ReplyGiven) (leads : Leads) → after_client s now event (cluster_of h.replied p) ≡ after_plan s rest plan (cluster_of h.replied p)
           → CanCome s event (cluster_of h.replied p) → lines_in p.term s (Some next) ≡ planned rest plan
-          → MayBeFine plan.out.admitted → TellsOf s seat.client.led (led_after plan.ready.change seat.client.led) seat.down rest (told_by s plan.ready.change plan.out.admitted) new tale.leads leads
+          → MayBeFine plan.out.admitted → TellsOf s state.client.led (led_after plan.ready.change state.client.led) state.down rest (told_by s plan.ready.change plan.out.admitted) new tale.leads leads
           → Holds laws count skew (max greatest now) (record { told = tale.told ++ new; leads = leads }) (with_plan next plan.out.admitted)
       client_holds event rest plan next new leads does can e fine tells = record {
         replied = with_told s (told_by s plan.ready.change plan.out.admitted) h.replied;
         cluster = subst (λ (c : Cluster). laws.Holds skew (max greatest now) c) (does ∙ plan_seen rest plan next e)
             (laws.rises skew greatest (max greatest now) (after_client s now event (cluster_of h.replied p)) (omega arith) (laws.client skew greatest now (cluster_of h.replied p) s h.cluster event can within));
         many = h.many;
-        rows = λ x i row j. joined_still p.seats s row.session next (h.rows x i row j);
-        parcels = λ f i. brings_still (HasJoined p.seats) (HasJoined (insert p.seats s.0 next)) (λ x y. joined_still p.seats s x next y) f.message (h.parcels f i);
-        answered = subst (λ (lines : Session → Lines). AllTelling lines (with_told s o h.replied) (record { told = tale.told ++ new; leads = leads })) (sym (lines_put p.term p.seats s next))
-            (told_more s (lines_in p.term s (Some next)) (lines_of p.term p.seats) h.replied tale o new leads h.answered there);
+        rows = λ x i row j. joined_still p.sessions s row.session next (h.rows x i row j);
+        parcels = λ f i. brings_still (HasJoined p.sessions) (HasJoined (insert p.sessions s.0 next)) (λ x y. joined_still p.sessions s x next y) f.message (h.parcels f i);
+        answered = subst (λ (lines : Session → Lines). AllTelling lines (with_told s o h.replied) (record { told = tale.told ++ new; leads = leads })) (sym (lines_put p.term p.sessions s next))
+            (told_more s (lines_in p.term s (Some next)) (lines_of p.term p.sessions) h.replied tale o new leads h.answered there);
         items = fine_pushed plan.out.admitted p.journal fine h.items;
       }
         where
           o : Option Item
           o = told_by s plan.ready.change plan.out.admitted
 
-          then : TellsOf s seat.client.led (lines_in p.term s (Some next)).client.led seat.down (lines_in p.term s (Some next)).down o new tale.leads leads
-          then = subst (λ (n : Lines). TellsOf s seat.client.led n.client.led seat.down n.down o new tale.leads leads) (sym e)
-              (subst (λ d. TellsOf s seat.client.led d seat.down rest o new tale.leads leads) (sym (led_then plan.ready seat.client)) tells)
+          then : TellsOf s state.client.led (lines_in p.term s (Some next)).client.led state.down (lines_in p.term s (Some next)).down o new tale.leads leads
+          then = subst (λ (n : Lines). TellsOf s state.client.led n.client.led state.down n.down o new tale.leads leads) (sym e)
+              (subst (λ d. TellsOf s state.client.led d state.down rest o new tale.leads leads)
+              (sym (led_then plan.ready state.client)) tells)
 
-          there : TellsOf s (lines_of p.term p.seats s).client.led (lines_in p.term s (Some next)).client.led (lines_of p.term p.seats s).down (lines_in p.term s (Some next)).down o new tale.leads leads
+          there : TellsOf s (lines_of p.term p.sessions s).client.led (lines_in p.term s (Some next)).client.led (lines_of p.term p.sessions s).down (lines_in p.term s (Some next)).down o new tale.leads leads
           there = subst (λ (l : Lines). TellsOf s l.client.led (lines_in p.term s (Some next)).client.led l.down (lines_in p.term s (Some next)).down o new tale.leads leads) (sym own) then

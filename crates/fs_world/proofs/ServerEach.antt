@@ -24,7 +24,7 @@ use Rattle.fs_world.specs.Calls.{server_heard}
 use Rattle.fs_world.specs.Linked.{FitsDown}
 use Rattle.fs_world.specs.Packets.{numbers_from, with_sent}
 use Rattle.fs_world.specs.Planned.{IsAnswered, run_of}
-use Rattle.fs_world.specs.Served.{Seats, ServerStepped, with_down, with_downs}
+use Rattle.fs_world.specs.Served.{SessionStates, ServerStepped, with_down, with_downs}
 use Rattle.fs_world.proofs.Spending.{has_room}
 
 -- what was joined of the actor are these events, each as it is read
@@ -44,7 +44,7 @@ abbrev pub taking : ℕ → ℕ → ServerEvent → ServerStepped → ServerStep
 taking k now e x = record x {
   server = (step x.server now e).server;
   post = with_pushed (step x.server now e).out.send x.post;
-  seats = with_downs k (step x.server now e).out.send x.seats;
+  sessions = with_downs k (step x.server now e).out.send x.sessions;
   in_flight = x.in_flight ++ in_flight_from k (step x.server now e).out.send;
   journal = x.journal ++ (step x.server now e).out.admitted;
 }
@@ -79,9 +79,9 @@ due_out k replied notes spent x = record x {
 
 -- ## Steps, one after another
 
-pub downs_append : (k : ℕ) (xs ys : List (Peer × Msg)) (seats : Seats) → with_downs k (xs ++ ys) seats ≡ with_downs k ys (with_downs k xs seats)
-downs_append k [] ys seats = refl
-downs_append k (x ∷ xs) ys seats = downs_append k xs ys (with_down k x seats)
+pub downs_append : (k : ℕ) (xs ys : List (Peer × Msg)) (sessions : SessionStates) → with_downs k (xs ++ ys) sessions ≡ with_downs k ys (with_downs k xs sessions)
+downs_append k [] ys sessions = refl
+downs_append k (x ∷ xs) ys sessions = downs_append k xs ys (with_down k x sessions)
 
 pub flying_append : (k : ℕ) (xs ys : List (Peer × Msg)) → in_flight_from k (xs ++ ys) ≡ in_flight_from k xs ++ in_flight_from k ys
 flying_append k [] ys = refl
@@ -95,7 +95,7 @@ abbrev ran : ℕ → ServerRun → ServerStepped → ServerStepped
 ran k y x = record x {
   server = y.server;
   post = y.post;
-  seats = with_downs k y.send x.seats;
+  sessions = with_downs k y.send x.sessions;
   in_flight = x.in_flight ++ in_flight_from k y.send;
   journal = x.journal ++ y.admitted;
 }
@@ -103,11 +103,12 @@ ran k y x = record x {
 one_ran : (k now : ℕ) (e : ServerEvent) (y : ServerRun) (x : ServerStepped) → ran k (server_hears_one now (Some e) y) x ≡ taking k now e (ran k y x)
 one_ran k now e y x =
     let out = (step y.server now e).out in
-    let seats : with_downs k (y.send ++ out.send) x.seats ≡ with_downs k out.send (with_downs k y.send x.seats) = downs_append k y.send out.send x.seats in
-    let in_flight : x.in_flight ++ in_flight_from k (y.send ++ out.send) ≡ (x.in_flight ++ in_flight_from k y.send) ++ in_flight_from k out.send =
+    let sessions : with_downs k (y.send ++ out.send) x.sessions ≡ with_downs k out.send (with_downs k y.send x.sessions) = downs_append k y.send out.send x.sessions in
+    let in_flight : x.in_flight ++ in_flight_from k (y.send ++ out.send) ≡
+    (x.in_flight ++ in_flight_from k y.send) ++ in_flight_from k out.send =
     ap (λ (fs : List InFlight). x.in_flight ++ fs) (flying_append k y.send out.send) ∙ sym (append_assoc x.in_flight (in_flight_from k y.send) (in_flight_from k out.send)) in
     let journal : x.journal ++ (y.admitted ++ out.admitted) ≡ (x.journal ++ y.admitted) ++ out.admitted = sym (append_assoc x.journal y.admitted out.admitted) in
-    λ i. record (taking k now e (ran k y x)) { seats = seats i; in_flight = in_flight i; journal = journal i }
+    λ i. record (taking k now e (ran k y x)) { sessions = sessions i; in_flight = in_flight i; journal = journal i }
 
 each_ran : (k now : ℕ) (from : Peer) (js : List Joined) (es : List ServerEvent) (y : ServerRun) (x : ServerStepped) → AreEvents from js es → ran k (server_hears_each now from js y) x ≡ taking_all k now es (ran k y x)
 each_ran k now from [] [] y x h = refl

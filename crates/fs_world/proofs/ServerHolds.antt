@@ -29,8 +29,8 @@ use Rattle.fs_serial.proofs.Lists.SetAt.{In_set, In_without}
 use Rattle.fs_world.specs.Linked.{HasJoined}
 use Rattle.fs_world.specs.Order.{Tale, told_to}
 use Rattle.fs_world.specs.Parts.{lines_in, lines_of}
-use Rattle.fs_world.specs.Served.{Seats, with_downs}
-use Rattle.fs_world.specs.declared.seat.Seat.{Seat}
+use Rattle.fs_world.specs.Served.{SessionStates, with_downs}
+use Rattle.fs_world.specs.declared.servers.session_state.SessionState.{SessionState}
 use Rattle.fs_world.proofs.Fine.{EntriesAsk, EventAsks, MessageAsks, fine_more, step_fine}
 use Rattle.fs_world.proofs.Seen.{joined_still, lines_put}
 use Rattle.fs_world.proofs.SeenRows.{BringsOf, IsAsked, IsOf, brings_still, step_of}
@@ -38,7 +38,7 @@ use Rattle.fs_world.proofs.SeenSends.{downs_joined, flying_of_these, sends_seen}
 use Rattle.fs_world.proofs.SerialLaws.{EventLaws}
 use Rattle.fs_world.proofs.ServedHolds.{Holds, Parts, cluster_of}
 use Rattle.fs_world.proofs.Coming.{answers_to, sent_line, taken_line, with_more}
-use Rattle.fs_world.proofs.Told.{AllTelling, AsksLed, IsTelling, answered_telling, brought, event_brings, replies_with}
+use Rattle.fs_world.proofs.RepliesGiven.{AllTelling, AsksLed, IsTelling, answered_telling, brought, event_brings, replies_with}
 
 module _ (laws : EventLaws) (count skew greatest : ℕ) (tale : Tale) (p : Parts) (h : Holds laws count skew greatest tale p) (now : ℕ) (k : ℕ) (s : Server) (at : slice_get p.servers k ≡ Some s) where
   abbrev pub c : Cluster
@@ -59,10 +59,10 @@ module _ (laws : EventLaws) (count skew greatest : ℕ) (tale : Tale) (p : Parts
 
   -- ## What is handed in asks for an access where it opens
 
-  entries_ask : (by : Session) (entries : List Entry) → In (Ship entries) (ends_of (lines_of p.term p.seats by)).up → EntriesAsk entries
+  entries_ask : (by : Session) (entries : List Entry) → In (Ship entries) (ends_of (lines_of p.term p.sessions by)).up → EntriesAsk entries
   entries_ask by entries there e i = laws.asks skew greatest s c by entries server_in there h.cluster e i
 
-  message_asks : (by : Session) (m : ClientMsg) → In m (ends_of (lines_of p.term p.seats by)).up → MessageAsks m
+  message_asks : (by : Session) (m : ClientMsg) → In m (ends_of (lines_of p.term p.sessions by)).up → MessageAsks m
   message_asks by (Ship entries) there = entries_ask by entries there
   message_asks by (Ask items dir) there = tt
   message_asks by (Renew pairs) there = tt
@@ -70,19 +70,19 @@ module _ (laws : EventLaws) (count skew greatest : ℕ) (tale : Tale) (p : Parts
   message_asks by (Lead m) there = tt
 
   event_asks : (e : ServerEvent) → IsThere k e c → EventAsks e
-  event_asks (FromClient by m) there = message_asks by m (In-mapped (λ (x : ℕ × ClientMsg). x.1) (k, m) (lines_of p.term p.seats by).up (found (is_with k) (lines_of p.term p.seats by).up (k, m) there).0)
+  event_asks (FromClient by m) there = message_asks by m (In-mapped (λ (x : ℕ × ClientMsg). x.1) (k, m) (lines_of p.term p.sessions by).up (found (is_with k) (lines_of p.term p.sessions by).up (k, m) there).0)
   event_asks (FromPeer from m) there = tt
   event_asks Turn there = tt
   event_asks (Recall field) there = tt
   event_asks (Move prefix to) there = tt
 
   -- what a session asks to be led is led
-  lead_asked : (by x : Session) (m : ToLead) → IsThere k (FromClient by (Lead m)) c → (by.0 == x.0) ≡ true → IsToBeLed (lines_of p.term p.seats x).client.led m
+  lead_asked : (by x : Session) (m : ToLead) → IsThere k (FromClient by (Lead m)) c → (by.0 == x.0) ≡ true → IsToBeLed (lines_of p.term p.sessions x).client.led m
   lead_asked by x m there e =
-      subst (λ (y : Session). IsToBeLed (lines_of p.term p.seats y).client.led m) (one_session by x e)
-      ((laws.exchanges skew greatest s c by server_in h.cluster).leads m (In-mapped (λ (n : ℕ × ClientMsg). n.1) (k, Lead m) (lines_of p.term p.seats by).up (found (is_with k) (lines_of p.term p.seats by).up (k, Lead m) there).0))
+      subst (λ (y : Session). IsToBeLed (lines_of p.term p.sessions y).client.led m) (one_session by x e)
+      ((laws.exchanges skew greatest s c by server_in h.cluster).leads m (In-mapped (λ (n : ℕ × ClientMsg). n.1) (k, Lead m) (lines_of p.term p.sessions by).up (found (is_with k) (lines_of p.term p.sessions by).up (k, Lead m) there).0))
 
-  asks_led : (x : Session) (e : ServerEvent) → IsThere k e c → AsksLed e x (lines_of p.term p.seats x).client.led
+  asks_led : (x : Session) (e : ServerEvent) → IsThere k e c → AsksLed e x (lines_of p.term p.sessions x).client.led
   asks_led x (FromClient by (Lead m)) there = lead_asked by x m there
   asks_led x (FromClient by (Ask items dir)) there = tt
   asks_led x (FromClient by (Renew pairs)) there = tt
@@ -93,17 +93,17 @@ module _ (laws : EventLaws) (count skew greatest : ℕ) (tale : Tale) (p : Parts
   asks_led x (Recall field) there = tt
   asks_led x (Move prefix to) there = tt
 
-  -- ## An event, whose message is gone from these seats
+  -- ## An event, whose message is gone from these sessions
 
-  abbrev pub after_core : ServerEvent → Seats → Parts
+  abbrev pub after_core : ServerEvent → SessionStates → Parts
   after_core e before = record p {
     servers = slice_set p.servers k (step s now e).server;
-    seats = with_downs k (step s now e).out.send before;
+    sessions = with_downs k (step s now e).out.send before;
     in_flight = without_arrived k e p.in_flight ++ in_flight_from k (step s now e).out.send;
     journal = p.journal ++ (step s now e).out.admitted;
   }
 
-  module _ (e : ServerEvent) (before : Seats) (taken : lines_of p.term before ≡ without_question k e (lines_of p.term p.seats)) (stay : (x : Session) → HasJoined p.seats x → HasJoined before x) (there : IsThere k e c) (asker : IsAsked (HasJoined before) e) where
+  module _ (e : ServerEvent) (before : SessionStates) (taken : lines_of p.term before ≡ without_question k e (lines_of p.term p.sessions)) (stay : (x : Session) → HasJoined p.sessions x → HasJoined before x) (there : IsThere k e c) (asker : IsAsked (HasJoined before) e) where
     step_is : IsOf (HasJoined before) (step s now e)
     step_is = step_of (HasJoined before) s now e asker (λ row i. stay row.session (h.rows s server_in row i))
 
@@ -116,17 +116,17 @@ module _ (laws : EventLaws) (count skew greatest : ℕ) (tale : Tale) (p : Parts
         ∙ ap (λ (lines : Session → Lines). stepped lines) (ap (with_sent k (step s now e).out.send) (sym taken) ∙ sym (sends_seen p.term k (step s now e).out.send before step_is.sends))
 
     -- what it brings to each session
-    at_each : AllTelling (with_sent k (step s now e).out.send (without_question k e (lines_of p.term p.seats))) (replies_after e (step s now e).out.admitted h.replied) tale
+    at_each : AllTelling (with_sent k (step s now e).out.send (without_question k e (lines_of p.term p.sessions))) (replies_after e (step s now e).out.admitted h.replied) tale
     at_each x =
         let send = (step s now e).out.send in
-        let l : Lines = lines_of p.term p.seats x in
-        let t = taken_line k e (lines_of p.term p.seats) x in
-        subst (λ (n : Lines). IsTelling x n (replies_after e (step s now e).out.admitted h.replied x) (told_to x tale.told) (tale.leads x)) (sym (sent_line k send (without_question k e (lines_of p.term p.seats)) x ∙ ap (with_more (answers_to k x send)) t.1))
+        let l : Lines = lines_of p.term p.sessions x in
+        let t = taken_line k e (lines_of p.term p.sessions) x in
+        subst (λ (n : Lines). IsTelling x n (replies_after e (step s now e).out.admitted h.replied x) (told_to x tale.told) (tale.leads x)) (sym (sent_line k send (without_question k e (lines_of p.term p.sessions)) x ∙ ap (with_more (answers_to k x send)) t.1))
         (subst (λ (items : List Item). IsTelling x (with_more (answers_to k x send) (record l { up = t.0 })) items (told_to x tale.told) (tale.leads x)) (sym (replies_with e x (step s now e).out.admitted h.replied))
         (answered_telling k x l (h.replied x) (brought e x (step s now e).out.admitted) (told_to x tale.told) (tale.leads x) (h.answered x) send t.0
         (event_brings k x l.client.led e (begun now s) (asks_led x e there))))
 
-    joined_then : (x : Session) → HasJoined before x → HasJoined (after_core e before).seats x
+    joined_then : (x : Session) → HasJoined before x → HasJoined (after_core e before).sessions x
     joined_then x i = downs_joined k (step s now e).out.send before x i
 
     left_there : (e : ServerEvent) (f : InFlight) → In f (without_arrived k e p.in_flight) → In f p.in_flight
@@ -147,41 +147,43 @@ module _ (laws : EventLaws) (count skew greatest : ℕ) (tale : Tale) (p : Parts
       items = fine_more p.journal (step s now e).out.admitted h.items (step_fine s now e (event_asks e there));
     }
       where
-        answered : AllTelling (lines_of p.term (after_core e before).seats) (replies_after e (step s now e).out.admitted h.replied) tale
+        answered : AllTelling (lines_of p.term (after_core e before).sessions) (replies_after e (step s now e).out.admitted h.replied) tale
         answered = subst (λ (lines : Session → Lines). AllTelling lines (replies_after e (step s now e).out.admitted h.replied) tale)
             (ap (with_sent k (step s now e).out.send) (sym taken) ∙ sym (sends_seen p.term k (step s now e).out.send before step_is.sends)) at_each
 
-        rows : (x : Server) → In x (after_core e before).servers → (row : _) → In row x.rows → HasJoined (after_core e before).seats row.session
-        rows x i row j = elim (In_set p.servers k (step s now e).server x i) as (λ _. HasJoined (after_core e before).seats row.session) [
-          | inl same ↦ joined_then row.session (step_is.rows row (subst (λ (y : Server). In row y.rows) same j))
-          | inr old ↦ joined_then row.session (stay row.session (h.rows x old row j))
-        ]
+        rows : (x : Server) → In x (after_core e before).servers → (row : _) → In row x.rows → HasJoined (after_core e before).sessions row.session
+        rows x i row j =
+            elim (In_set p.servers k (step s now e).server x i) as (λ _. HasJoined (after_core e before).sessions row.session) [
+              | inl same ↦ joined_then row.session (step_is.rows row (subst (λ (y : Server). In row y.rows) same j))
+              | inr old ↦ joined_then row.session (stay row.session (h.rows x old row j))
+            ]
 
-        parcels : (f : InFlight) → In f (after_core e before).in_flight → BringsOf (HasJoined (after_core e before).seats) f.message
-        parcels f i = elim (In-append f (without_arrived k e p.in_flight) (in_flight_from k (step s now e).out.send) i) as (λ _. BringsOf (HasJoined (after_core e before).seats) f.message) [
-          | inl old ↦ brings_still (HasJoined p.seats) (HasJoined (after_core e before).seats) (λ x y. joined_then x (stay x y)) f.message (h.parcels f (left_there e f old))
-          | inr new ↦ brings_still (HasJoined before) (HasJoined (after_core e before).seats) joined_then f.message (flying_of_these (HasJoined before) k (step s now e).out.send step_is.sends f new)
+        parcels : (f : InFlight) → In f (after_core e before).in_flight → BringsOf (HasJoined (after_core e before).sessions) f.message
+        parcels f i = elim (In-append f (without_arrived k e p.in_flight) (in_flight_from k (step s now e).out.send) i) as (λ _. BringsOf (HasJoined (after_core e before).sessions) f.message) [
+          | inl old ↦ brings_still (HasJoined p.sessions) (HasJoined (after_core e before).sessions) (λ x y. joined_then x (stay x y)) f.message (h.parcels f (left_there e f old))
+          | inr new ↦ brings_still (HasJoined before) (HasJoined (after_core e before).sessions) joined_then f.message (flying_of_these (HasJoined before) k (step s now e).out.send step_is.sends f new)
         ]
 
   -- ## A message that comes
 
   -- the question of the session is there, as it was found
-  pub question_there : (by : Session) (seat : Seat) (m : ℕ × ClientMsg) → get p.seats by.0 ≡ Some seat → find (is_with k) seat.up ≡ Some m → IsThere k (FromClient by m.1) c
-  question_there by seat m is first =
+  pub question_there : (by : Session) (state : SessionState) (m : ℕ × ClientMsg) → get p.sessions by.0 ≡ Some state → find (is_with k) state.up ≡ Some m → IsThere k (FromClient by m.1) c
+  question_there by state m is first =
       ap (λ (n : Lines). find (is_with k) n.up) (ap (lines_in p.term by) is) ∙ first
-      ∙ ap (λ (j : ℕ). let o : Option (ℕ × ClientMsg) = Some (j, m.1) in o) (eqb-true m.0 k (found (is_with k) seat.up m first).1)
+      ∙ ap (λ (j : ℕ). let o : Option (ℕ × ClientMsg) = Some (j, m.1) in o) (eqb-true m.0 k (found (is_with k) state.up m first).1)
 
-  pub question_taken : (by : Session) (seat : Seat) (m : ClientMsg) → get p.seats by.0 ≡ Some seat
-      → lines_of p.term (insert p.seats by.0 (record seat { up = without_first (is_with k) seat.up })) ≡ without_question k (FromClient by m) (lines_of p.term p.seats)
-  question_taken by seat m is =
-      lines_put p.term p.seats by (record seat { up = without_first (is_with k) seat.up })
-      ∙ ap (λ (n : Lines). with_lines by (record n { up = without_first (is_with k) n.up }) (lines_of p.term p.seats)) (sym (ap (lines_in p.term by) is))
+  pub question_taken : (by : Session) (state : SessionState) (m : ClientMsg) → get p.sessions by.0 ≡ Some state
+      → lines_of p.term (insert p.sessions by.0 (record state { up = without_first (is_with k) state.up })) ≡ without_question k (FromClient by m) (lines_of p.term p.sessions)
+  question_taken by state m is =
+      lines_put p.term p.sessions by (record state { up = without_first (is_with k) state.up })
+      ∙ ap (λ (n : Lines). with_lines by (record n { up = without_first (is_with k) n.up }) (lines_of p.term p.sessions)) (sym (ap (lines_in p.term by) is))
 
-  pub message_holds : (by : Session) (seat : Seat) (m : ℕ × ClientMsg) → get p.seats by.0 ≡ Some seat → find (is_with k) seat.up ≡ Some m
-      → Holds laws count skew (max greatest now) tale (after_core (FromClient by m.1) (insert p.seats by.0 (record seat { up = without_first (is_with k) seat.up })))
-  message_holds by seat m is first = server_holds (FromClient by m.1) (insert p.seats by.0 (record seat { up = without_first (is_with k) seat.up }))
-      (question_taken by seat m.1 is) (λ x i. joined_still p.seats by x (record seat { up = without_first (is_with k) seat.up }) i) (question_there by seat m is first)
-      (joined_still p.seats by by (record seat { up = without_first (is_with k) seat.up }) (seat, is))
+  pub message_holds : (by : Session) (state : SessionState) (m : ℕ × ClientMsg) → get p.sessions by.0 ≡ Some state
+      → find (is_with k) state.up ≡ Some m
+      → Holds laws count skew (max greatest now) tale (after_core (FromClient by m.1) (insert p.sessions by.0 (record state { up = without_first (is_with k) state.up })))
+  message_holds by state m is first = server_holds (FromClient by m.1) (insert p.sessions by.0 (record state { up = without_first (is_with k) state.up }))
+      (question_taken by state m.1 is) (λ x i. joined_still p.sessions by x (record state { up = without_first (is_with k) state.up }) i) (question_there by state m is first)
+      (joined_still p.sessions by by (record state { up = without_first (is_with k) state.up }) (state, is))
 
   -- the message of another server is there, as it was found
   flying_is : (j : ℕ) (f : InFlight) → f.from ≡ j → f.to ≡ k → f ≡ record { from = j; to = k; message = f.message }
@@ -192,5 +194,6 @@ module _ (laws : EventLaws) (count skew greatest : ℕ) (tale : Tale) (p : Parts
       let is = both (f.from == j) (f.to == k) (found (is_between j k) p.in_flight f first).1 in
       first ∙ ap (λ (g : InFlight). let o : Option InFlight = Some g in o) (flying_is j f (eqb-true f.from j is.0) (eqb-true f.to k is.1))
 
-  pub flying_of_joined : (j : ℕ) (f : InFlight) → find (is_between j k) p.in_flight ≡ Some f → IsAsked (HasJoined p.seats) (FromPeer j f.message)
+  pub flying_of_joined : (j : ℕ) (f : InFlight) → find (is_between j k) p.in_flight ≡ Some f
+      → IsAsked (HasJoined p.sessions) (FromPeer j f.message)
   flying_of_joined j f first = h.parcels f (found (is_between j k) p.in_flight f first).0

@@ -18,21 +18,21 @@ use Rattle.fs_serial.specs.declared.in_flight.InFlight.{InFlight}
 use Rattle.fs_server.specs.declared.event.ServerEvent.{ServerEvent}
 use Rattle.fs_server.specs.declared.event.ServerEvent.TheVariants.{FromClient, FromPeer}
 use Rattle.fs_world.specs.Carried.{AreFirstOf, between, flying_between, ups_of}
-use Rattle.fs_world.specs.Served.{Seats, ServerStepped, flying_without, flying_without_each, seats_without, seats_without_each, with_down, with_down_at, with_downs, without_joined, without_up}
-use Rattle.fs_world.specs.declared.seat.Seat.{Seat}
-use Rattle.fs_world.specs.declared.served.Served.{Served}
+use Rattle.fs_world.specs.Served.{SessionStates, ServerStepped, flying_without, flying_without_each, sessions_without, sessions_without_each, with_down, with_down_at, with_downs, without_joined, without_up}
+use Rattle.fs_world.specs.declared.servers.session_state.SessionState.{SessionState}
+use Rattle.fs_world.specs.declared.servers.world.Served.{Served}
 use Rattle.fs_world.proofs.Heard.{first_flying, first_question}
 use Rattle.fs_world.proofs.LinkedLists.{find_front, first_gone, later_first, without_front}
-use Rattle.fs_world.proofs.LinkedSeats.{got_here, got_there, session_is}
+use Rattle.fs_world.proofs.LinkedStates.{got_here, got_there, session_is}
 use Rattle.fs_world.proofs.Popped.{popped_then}
 use Rattle.fs_world.proofs.ServerEach.{AreEvents, sent_at, taking}
 
 -- the event brings the next message of the session to the server of number k
-pub record IsQuestion (k : ℕ) (s : Session) (e : ServerEvent) (seats : Seats) : Type 0 where
-  pub seat : Seat
-  pub there : get seats s.0 ≡ Some seat
+pub record IsQuestion (k : ℕ) (s : Session) (e : ServerEvent) (sessions : SessionStates) : Type 0 where
+  pub state : SessionState
+  pub there : get sessions s.0 ≡ Some state
   pub asked : ℕ × ClientMsg
-  pub first : find (is_with k) seat.up ≡ Some asked
+  pub first : find (is_with k) state.up ≡ Some asked
   pub is : e ≡ FromClient s asked.1
   pub fits : FitsMessage (msg.Client asked.1)
 
@@ -42,54 +42,54 @@ pub record IsMessage (k i : ℕ) (e : ServerEvent) (in_flight : List InFlight) :
   pub first : find (is_between i k) in_flight ≡ Some flies
   pub is : e ≡ FromPeer i flies.message
 
-abbrev pub IsNext : ℕ → Peer → ServerEvent → Seats → List InFlight → Type 0
-IsNext k (Client s) e seats in_flight = IsQuestion k s e seats
-IsNext k (Server i) e seats in_flight = IsMessage k i e in_flight
+abbrev pub IsNext : ℕ → Peer → ServerEvent → SessionStates → List InFlight → Type 0
+IsNext k (Client s) e sessions in_flight = IsQuestion k s e sessions
+IsNext k (Server i) e sessions in_flight = IsMessage k i e in_flight
 
 -- each of these, in order
-abbrev pub AreNext : ℕ → Peer → List ServerEvent → Seats → List InFlight → Type 0
-AreNext k from [] seats in_flight = Unit {0}
-AreNext k from (e ∷ es) seats in_flight = IsNext k from e seats in_flight × AreNext k from es (seats_without k from seats) (flying_without k from in_flight)
+abbrev pub AreNext : ℕ → Peer → List ServerEvent → SessionStates → List InFlight → Type 0
+AreNext k from [] sessions in_flight = Unit {0}
+AreNext k from (e ∷ es) sessions in_flight = IsNext k from e sessions in_flight × AreNext k from es (sessions_without k from sessions) (flying_without k from in_flight)
 
 -- ## What a packet joins
 
-questions_in : (k : ℕ) (s : Session) (js : List Joined) (seats : Seats) (in_flight : List InFlight) → AreFirstOf js (ups_of k (get seats s.0)) → (es : List ServerEvent) × AreEvents (Client s) js es × AreNext k (Client s) es seats in_flight
-questions_in k s [] seats in_flight f = ([], tt, tt)
-questions_in k s (j ∷ js) seats in_flight f = at (get seats s.0) refl f (λ m g. questions_in k s js m in_flight g)
+questions_in : (k : ℕ) (s : Session) (js : List Joined) (sessions : SessionStates) (in_flight : List InFlight) → AreFirstOf js (ups_of k (get sessions s.0)) → (es : List ServerEvent) × AreEvents (Client s) js es × AreNext k (Client s) es sessions in_flight
+questions_in k s [] sessions in_flight f = ([], tt, tt)
+questions_in k s (j ∷ js) sessions in_flight f = at (get sessions s.0) refl f (λ m g. questions_in k s js m in_flight g)
   where
-    at : (o : Option Seat) → get seats s.0 ≡ o → AreFirstOf (j ∷ js) (ups_of k o)
-        → ((m : Seats) → AreFirstOf js (ups_of k (get m s.0)) → (es : List ServerEvent) × AreEvents (Client s) js es × AreNext k (Client s) es m in_flight)
-        → (es : List ServerEvent) × AreEvents (Client s) (j ∷ js) es × AreNext k (Client s) es seats in_flight
+    at : (o : Option SessionState) → get sessions s.0 ≡ o → AreFirstOf (j ∷ js) (ups_of k o)
+        → ((m : SessionStates) → AreFirstOf js (ups_of k (get m s.0)) → (es : List ServerEvent) × AreEvents (Client s) js es × AreNext k (Client s) es m in_flight)
+        → (es : List ServerEvent) × AreEvents (Client s) (j ∷ js) es × AreNext k (Client s) es sessions in_flight
     at None is f others = absurd f
-    at (Some seat) is f others =
-        let first = first_question k s seat j js f in
-        let left : Seat = record seat { up = without_first (is_with k) seat.up } in
+    at (Some state) is f others =
+        let first = first_question k s state j js f in
+        let left : SessionState = record state { up = without_first (is_with k) state.up } in
         let behind_it : AreFirstOf js (ups_of k (Some left)) =
-        subst (λ (ms : List (ℕ × ClientMsg)). AreFirstOf js (map (λ (m : ℕ × ClientMsg). msg.Client m.1) ms)) (sym (first_gone (is_with k) seat.up)) (later_first (λ (m : ℕ × ClientMsg). msg.Client m.1) j js (filter (is_with k) seat.up) f) in
-        let gone : get (seats_without k (Client s) seats) s.0 ≡ Some left = ap (λ (o : Option Seat). get (without_up k o s.0 seats) s.0) is ∙ got_here seats s left in
-        let rest = others (seats_without k (Client s) seats) (subst (λ (o : Option Seat). AreFirstOf js (ups_of k o)) (sym gone) behind_it) in
-        (FromClient s first.0.1 ∷ rest.0, (first.2, rest.1), (record { seat = seat; there = is; asked = first.0; first = first.1; is = refl; fits = first.3 }, rest.2))
+        subst (λ (ms : List (ℕ × ClientMsg)). AreFirstOf js (map (λ (m : ℕ × ClientMsg). msg.Client m.1) ms)) (sym (first_gone (is_with k) state.up)) (later_first (λ (m : ℕ × ClientMsg). msg.Client m.1) j js (filter (is_with k) state.up) f) in
+        let gone : get (sessions_without k (Client s) sessions) s.0 ≡ Some left = ap (λ (o : Option SessionState). get (without_up k o s.0 sessions) s.0) is ∙ got_here sessions s left in
+        let rest = others (sessions_without k (Client s) sessions) (subst (λ (o : Option SessionState). AreFirstOf js (ups_of k o)) (sym gone) behind_it) in
+        (FromClient s first.0.1 ∷ rest.0, (first.2, rest.1), (record { state = state; there = is; asked = first.0; first = first.1; is = refl; fits = first.3 }, rest.2))
 
-messages_in : (k i : ℕ) (js : List Joined) (seats : Seats) (in_flight : List InFlight) → AreFirstOf js (flying_between i k in_flight) → (es : List ServerEvent) × AreEvents (Server i) js es × AreNext k (Server i) es seats in_flight
-messages_in k i [] seats in_flight f = ([], tt, tt)
-messages_in k i (j ∷ js) seats in_flight f =
+messages_in : (k i : ℕ) (js : List Joined) (sessions : SessionStates) (in_flight : List InFlight) → AreFirstOf js (flying_between i k in_flight) → (es : List ServerEvent) × AreEvents (Server i) js es × AreNext k (Server i) es sessions in_flight
+messages_in k i [] sessions in_flight f = ([], tt, tt)
+messages_in k i (j ∷ js) sessions in_flight f =
     let first = first_flying k i in_flight j js f in
     let behind_it : AreFirstOf js (flying_between i k (without_first (is_between i k) in_flight)) =
     subst (λ (ms : List InFlight). AreFirstOf js (map (λ (x : InFlight). msg.Peer x.message) ms)) (sym (first_gone (is_between i k) in_flight)) (later_first (λ (x : InFlight). msg.Peer x.message) j js (filter (is_between i k) in_flight) f) in
-    let rest = messages_in k i js seats (without_first (is_between i k) in_flight) behind_it in
+    let rest = messages_in k i js sessions (without_first (is_between i k) in_flight) behind_it in
     (FromPeer i first.0.message ∷ rest.0, (first.2, rest.1), (record { flies = first.0; first = first.1; is = refl }, rest.2))
 
 -- what comes first of the messages on their way is events, each the next one
-pub events_in : (w : Served) (k : ℕ) (from : Peer) (js : List Joined) → AreFirstOf js (between w from (Server k)) → (es : List ServerEvent) × AreEvents from js es × AreNext k from es w.seats w.in_flight
-events_in w k (Client s) js f = questions_in k s js w.seats w.in_flight f
-events_in w k (Server i) js f = messages_in k i js w.seats w.in_flight f
+pub events_in : (w : Served) (k : ℕ) (from : Peer) (js : List Joined) → AreFirstOf js (between w from (Server k)) → (es : List ServerEvent) × AreEvents from js es × AreNext k from es w.sessions w.in_flight
+events_in w k (Client s) js f = questions_in k s js w.sessions w.in_flight f
+events_in w k (Server i) js f = messages_in k i js w.sessions w.in_flight f
 
 -- as many go
-pub seats_alike : (k : ℕ) (from : Peer) (js : List Joined) (es : List ServerEvent) (seats : Seats) → AreEvents from js es → seats_without_each k from js seats ≡ seats_without_each k from es seats
-seats_alike k from [] [] seats h = refl
-seats_alike k from [] (e ∷ es) seats h = absurd h
-seats_alike k from (j ∷ js) [] seats h = absurd h
-seats_alike k from (j ∷ js) (e ∷ es) seats h = seats_alike k from js es (seats_without k from seats) h.1
+pub sessions_alike : (k : ℕ) (from : Peer) (js : List Joined) (es : List ServerEvent) (sessions : SessionStates) → AreEvents from js es → sessions_without_each k from js sessions ≡ sessions_without_each k from es sessions
+sessions_alike k from [] [] sessions h = refl
+sessions_alike k from [] (e ∷ es) sessions h = absurd h
+sessions_alike k from (j ∷ js) [] sessions h = absurd h
+sessions_alike k from (j ∷ js) (e ∷ es) sessions h = sessions_alike k from js es (sessions_without k from sessions) h.1
 
 pub flying_alike : (k : ℕ) (from : Peer) (js : List Joined) (es : List ServerEvent) (in_flight : List InFlight) → AreEvents from js es → flying_without_each k from js in_flight ≡ flying_without_each k from es in_flight
 flying_alike k from [] [] in_flight h = refl
@@ -99,71 +99,75 @@ flying_alike k from (j ∷ js) (e ∷ es) in_flight h = flying_alike k from js e
 
 -- ## What is sent does not stand in the way
 
-one_down : (k : ℕ) (x : Peer × Msg) (seats : Seats) (s : Session) (seat : Seat) → get seats s.0 ≡ Some seat → (next : Seat) × (get (with_down k x seats) s.0 ≡ Some next) × (next.up ≡ seat.up)
-one_down k (Client t, msg.Answer a) seats s seat is = at (get seats t.0) refl
+one_down : (k : ℕ) (x : Peer × Msg) (sessions : SessionStates) (s : Session) (state : SessionState) → get sessions s.0 ≡ Some state → (next : SessionState) × (get (with_down k x sessions) s.0 ≡ Some next) × (next.up ≡ state.up)
+one_down k (Client t, msg.Answer a) sessions s state is = at (get sessions t.0) refl
   where
-    at : (o : Option Seat) → get seats t.0 ≡ o → (next : Seat) × (get (with_down_at o t.0 (k, a) seats) s.0 ≡ Some next) × (next.up ≡ seat.up)
-    at None e = (seat, is, refl)
+    at : (o : Option SessionState) → get sessions t.0 ≡ o → (next : SessionState) × (get (with_down_at o t.0 (k, a) sessions) s.0 ≡ Some next) × (next.up ≡ state.up)
+    at None e = (state, is, refl)
     at (Some old) e = either (same_peer (Client s) (Client t)) refl
       where
-        new : Seat
+        new : SessionState
         new = record old { down = old.down ++ (k, a) ∷ [] }
 
-        either : (b : Bool) → same_peer (Client s) (Client t) ≡ b → (next : Seat) × (get (insert seats t.0 new) s.0 ≡ Some next) × (next.up ≡ seat.up)
+        either : (b : Bool) → same_peer (Client s) (Client t) ≡ b → (next : SessionState) × (get (insert sessions t.0 new) s.0 ≡ Some next) × (next.up ≡ state.up)
         either true q =
             let one : s ≡ t = session_is s t q in
-            let same : old ≡ seat = some_is old seat (sym e ∙ ap (λ (z : Session). get seats z.0) (sym one) ∙ is) in
-            (new, ap (λ (z : Session). get (insert seats t.0 new) z.0) one ∙ got_here seats t new, ap (λ (z : Seat). z.up) same)
-        either false q = (seat, got_there seats t s new q ∙ is, refl)
-one_down k (Client t, msg.Client m) seats s seat is = (seat, is, refl)
-one_down k (Client t, msg.Peer m) seats s seat is = (seat, is, refl)
-one_down k (Server to, m) seats s seat is = (seat, is, refl)
+            let same : old ≡ state = some_is old state (sym e ∙ ap (λ (z : Session). get sessions z.0) (sym one) ∙ is) in (
+              new,
+              ap (λ (z : Session). get (insert sessions t.0 new) z.0) one
+                  ∙ got_here sessions t new,
+              ap (λ (z : SessionState). z.up) same,
+            )
+        either false q = (state, got_there sessions t s new q ∙ is, refl)
+one_down k (Client t, msg.Client m) sessions s state is = (state, is, refl)
+one_down k (Client t, msg.Peer m) sessions s state is = (state, is, refl)
+one_down k (Server to, m) sessions s state is = (state, is, refl)
 
-all_down : (k : ℕ) (xs : List (Peer × Msg)) (seats : Seats) (s : Session) (seat : Seat) → get seats s.0 ≡ Some seat → (next : Seat) × (get (with_downs k xs seats) s.0 ≡ Some next) × (next.up ≡ seat.up)
-all_down k [] seats s seat is = (seat, is, refl)
-all_down k (x ∷ xs) seats s seat is =
-    let one = one_down k x seats s seat is in
-    let rest = all_down k xs (with_down k x seats) s one.0 one.1 in
+all_down : (k : ℕ) (xs : List (Peer × Msg)) (sessions : SessionStates) (s : Session) (state : SessionState) → get sessions s.0 ≡ Some state → (next : SessionState) × (get (with_downs k xs sessions) s.0 ≡ Some next) × (next.up ≡ state.up)
+all_down k [] sessions s state is = (state, is, refl)
+all_down k (x ∷ xs) sessions s state is =
+    let one = one_down k x sessions s state is in
+    let rest = all_down k xs (with_down k x sessions) s one.0 one.1 in
     (rest.0, rest.1, rest.2 ∙ one.2)
 
-one_still : (k : ℕ) (from : Peer) (e : ServerEvent) (xs : List (Peer × Msg)) (seats : Seats) (in_flight more : List InFlight) → IsNext k from e seats in_flight → IsNext k from e (with_downs k xs seats) (in_flight ++ more)
-one_still k (Client s) e xs seats in_flight more h =
-    let then = all_down k xs seats s h.seat h.there in
-    record { seat = then.0; there = then.1; asked = h.asked; first = ap (λ (up : List (ℕ × ClientMsg)). find (is_with k) up) then.2 ∙ h.first; is = h.is; fits = h.fits }
-one_still k (Server i) e xs seats in_flight more h = record { flies = h.flies; first = find_front (is_between i k) in_flight more h.flies h.first; is = h.is }
+one_still : (k : ℕ) (from : Peer) (e : ServerEvent) (xs : List (Peer × Msg)) (sessions : SessionStates) (in_flight more : List InFlight) → IsNext k from e sessions in_flight → IsNext k from e (with_downs k xs sessions) (in_flight ++ more)
+one_still k (Client s) e xs sessions in_flight more h =
+    let then = all_down k xs sessions s h.state h.there in
+    record { state = then.0; there = then.1; asked = h.asked; first = ap (λ (up : List (ℕ × ClientMsg)). find (is_with k) up) then.2 ∙ h.first; is = h.is; fits = h.fits }
+one_still k (Server i) e xs sessions in_flight more h = record { flies = h.flies; first = find_front (is_between i k) in_flight more h.flies h.first; is = h.is }
 
 -- whether the message is taken off before or after, the same stands there
-pub seats_crossed : (k : ℕ) (from : Peer) (xs : List (Peer × Msg)) (seats : Seats) → seats_without k from (with_downs k xs seats) ≡ with_downs k xs (seats_without k from seats)
-seats_crossed k (Client s) xs seats = popped_then k s.0 k xs seats
-seats_crossed k (Server j) xs seats = refl
+pub sessions_crossed : (k : ℕ) (from : Peer) (xs : List (Peer × Msg)) (sessions : SessionStates) → sessions_without k from (with_downs k xs sessions) ≡ with_downs k xs (sessions_without k from sessions)
+sessions_crossed k (Client s) xs sessions = popped_then k s.0 k xs sessions
+sessions_crossed k (Server j) xs sessions = refl
 
-pub seats_cross : {Y : Type 0} (k : ℕ) (from : Peer) (ys : List Y) (xs : List (Peer × Msg)) (seats : Seats) → seats_without_each k from ys (with_downs k xs seats) ≡ with_downs k xs (seats_without_each k from ys seats)
-seats_cross k from [] xs seats = refl
-seats_cross {Y} k from (y ∷ ys) xs seats = ap (seats_without_each {Y = Y} k from ys) (seats_crossed k from xs seats) ∙ seats_cross k from ys xs (seats_without k from seats)
+pub sessions_cross : {Y : Type 0} (k : ℕ) (from : Peer) (ys : List Y) (xs : List (Peer × Msg)) (sessions : SessionStates) → sessions_without_each k from ys (with_downs k xs sessions) ≡ with_downs k xs (sessions_without_each k from ys sessions)
+sessions_cross k from [] xs sessions = refl
+sessions_cross {Y} k from (y ∷ ys) xs sessions = ap (sessions_without_each {Y = Y} k from ys) (sessions_crossed k from xs sessions) ∙ sessions_cross k from ys xs (sessions_without k from sessions)
 
-flying_crossed : (k : ℕ) (from : Peer) (e : ServerEvent) (seats : Seats) (in_flight more : List InFlight) → IsNext k from e seats in_flight → flying_without k from (in_flight ++ more) ≡ flying_without k from in_flight ++ more
-flying_crossed k (Client s) e seats in_flight more h = refl
-flying_crossed k (Server i) e seats in_flight more h = without_front (is_between i k) in_flight more h.flies h.first
+flying_crossed : (k : ℕ) (from : Peer) (e : ServerEvent) (sessions : SessionStates) (in_flight more : List InFlight) → IsNext k from e sessions in_flight → flying_without k from (in_flight ++ more) ≡ flying_without k from in_flight ++ more
+flying_crossed k (Client s) e sessions in_flight more h = refl
+flying_crossed k (Server i) e sessions in_flight more h = without_front (is_between i k) in_flight more h.flies h.first
 
-flying_cross : (k : ℕ) (from : Peer) (es : List ServerEvent) (seats : Seats) (in_flight more : List InFlight) → AreNext k from es seats in_flight → flying_without_each k from es (in_flight ++ more) ≡ flying_without_each k from es in_flight ++ more
-flying_cross k from [] seats in_flight more h = refl
-flying_cross k from (e ∷ es) seats in_flight more h =
-    ap (flying_without_each {Y = ServerEvent} k from es) (flying_crossed k from e seats in_flight more h.0)
-    ∙ flying_cross k from es (seats_without k from seats) (flying_without k from in_flight) more h.1
+flying_cross : (k : ℕ) (from : Peer) (es : List ServerEvent) (sessions : SessionStates) (in_flight more : List InFlight) → AreNext k from es sessions in_flight → flying_without_each k from es (in_flight ++ more) ≡ flying_without_each k from es in_flight ++ more
+flying_cross k from [] sessions in_flight more h = refl
+flying_cross k from (e ∷ es) sessions in_flight more h =
+    ap (flying_without_each {Y = ServerEvent} k from es) (flying_crossed k from e sessions in_flight more h.0)
+    ∙ flying_cross k from es (sessions_without k from sessions) (flying_without k from in_flight) more h.1
 
-pub next_still : (k : ℕ) (from : Peer) (es : List ServerEvent) (xs : List (Peer × Msg)) (seats : Seats) (in_flight more : List InFlight) → AreNext k from es seats in_flight → AreNext k from es (with_downs k xs seats) (in_flight ++ more)
-next_still k from [] xs seats in_flight more h = tt
-next_still k from (e ∷ es) xs seats in_flight more h = (
-  one_still k from e xs seats in_flight more h.0,
-  subst (λ (m : Seats). AreNext k from es m (flying_without k from (in_flight ++ more))) (sym (seats_crossed k from xs seats))
-      (subst (λ (fs : List InFlight). AreNext k from es (with_downs k xs (seats_without k from seats)) fs) (sym (flying_crossed k from e seats in_flight more h.0))
-      (next_still k from es xs (seats_without k from seats) (flying_without k from in_flight) more h.1)),
+pub next_still : (k : ℕ) (from : Peer) (es : List ServerEvent) (xs : List (Peer × Msg)) (sessions : SessionStates) (in_flight more : List InFlight) → AreNext k from es sessions in_flight → AreNext k from es (with_downs k xs sessions) (in_flight ++ more)
+next_still k from [] xs sessions in_flight more h = tt
+next_still k from (e ∷ es) xs sessions in_flight more h = (
+  one_still k from e xs sessions in_flight more h.0,
+  subst (λ (m : SessionStates). AreNext k from es m (flying_without k from (in_flight ++ more))) (sym (sessions_crossed k from xs sessions))
+      (subst (λ (fs : List InFlight). AreNext k from es (with_downs k xs (sessions_without k from sessions)) fs) (sym (flying_crossed k from e sessions in_flight more h.0))
+      (next_still k from es xs (sessions_without k from sessions) (flying_without k from in_flight) more h.1)),
 )
 
 -- the rest is taken off before the step as well as after it
-pub step_crossed : (k : ℕ) (from : Peer) (es : List ServerEvent) (now : ℕ) (e : ServerEvent) (x : ServerStepped) → AreNext k from es x.seats x.in_flight → without_joined k from es (taking k now e x) ≡ taking k now e (without_joined k from es x)
+pub step_crossed : (k : ℕ) (from : Peer) (es : List ServerEvent) (now : ℕ) (e : ServerEvent) (x : ServerStepped) → AreNext k from es x.sessions x.in_flight → without_joined k from es (taking k now e x) ≡ taking k now e (without_joined k from es x)
 step_crossed k from es now e x h =
     let send = sent_at now e x.server in
-    let seats = seats_cross k from es send x.seats in
-    let in_flight = flying_cross k from es x.seats x.in_flight (in_flight_from k send) h in
-    λ i. record (taking k now e x) { seats = seats i; in_flight = in_flight i }
+    let sessions = sessions_cross k from es send x.sessions in
+    let in_flight = flying_cross k from es x.sessions x.in_flight (in_flight_from k send) h in
+    λ i. record (taking k now e x) { sessions = sessions i; in_flight = in_flight i }

@@ -8,7 +8,7 @@ use Rattle.fs_schedule.specs.declared.event.Head.{Head}
 use Rattle.fs_schedule.specs.declared.event.Head.TheVariants as head
 use Rattle.fs_schedule.specs.declared.event.Schedule.{Schedule}
 use Rattle.fs_world.specs.Carried.{AllCarry}
-use Rattle.fs_world.specs.Order.{AllAdmitted, IsInSessionOrder, Tale, Told, first_tale, tale_of, told_of}
+use Rattle.fs_world.specs.Order.{AllAdmitted, IsInSessionOrder, Tale, ReplyGiven, first_tale, tale_of, replies_given}
 use Rattle.fs_world.specs.Parts.{AllPartsHold, PartsHold, ServedHold, greatest_of}
 use Rattle.fs_world.specs.Safe.{IsSerial}
 use Rattle.fs_schedule.specs.Skew.{IsTimely}
@@ -26,7 +26,7 @@ use Rattle.fs_world.proofs.ServedDone.{served_asks, served_ordered, served_parts
 use Rattle.fs_world.proofs.Within.{nothing_carried}
 
 -- what a world comes to
-record IsDone (told : List Told) (w : Form) : Type 0 where
+record IsDone (told : List ReplyGiven) (w : Form) : Type 0 where
   serial : IsSerialRun first_space (journal_of w) (space_of w)
   ordered : IsInSessionOrder (journal_of w) told
   asks : AllAsk (journal_of w)
@@ -74,6 +74,6 @@ direct_carries : (h : Head) (es : List Event) → h ≡ head.Direct → AllCarry
 direct_carries head.Direct es e = nothing_carried first_direct es
 direct_carries (head.Servers servers skew term) es e = absurd (cc)
 
-pub told_is_admitted : (laws : SerialLaws) (s : Schedule) → s.head ≡ head.Direct → AllMayHappen s.head s.events → AllAdmitted (journal_of (run_of s).world) (told_of s.events (run_of s).outcomes)
+pub told_is_admitted : (laws : SerialLaws) (s : Schedule) → s.head ≡ head.Direct → AllMayHappen s.head s.events → AllAdmitted (journal_of (run_of s).world) (replies_given s.events (run_of s).outcomes)
 told_is_admitted laws s direct may =
     direct_admitted laws (greatest_of 0 s.events) (tale_of first_tale s.events (run_of s).outcomes) (run_of s).world (subst (λ (h : Head). Goes laws (greatest_of 0 s.events) h [] (tale_of first_tale s.events (run_of s).outcomes) (run_of s).world) direct (run_goes laws s (direct_fits s.head direct) may (direct_timely s.head s.events direct) (direct_carries s.head s.events direct)))

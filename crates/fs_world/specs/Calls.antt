@@ -28,30 +28,31 @@ use Rattle.fs_window.specs.Post.{Links, post_due}
 use Rattle.fs_window.specs.declared.heard.Heard.{Heard}
 use Rattle.fs_world.specs.Direct.{outcome_of}
 use Rattle.fs_world.specs.Packets.{Packets, numbers_from, with_sent}
-use Rattle.fs_world.specs.Served.{SeatStepped, Seats, ServerStepped, Stepped, core_of, flying_without, nothing, seat_ran, seat_stepped, seats_without, server_found, server_ran, server_stepped, side_of, with_downs, without_each, without_joined}
-use Rattle.fs_world.specs.declared.seat.Seat.{Seat}
-use Rattle.fs_world.specs.declared.served.Served.{Served}
+use Rattle.fs_world.specs.Served.{SessionStepped, SessionStates, ServerStepped, Stepped, core_of, flying_without, nothing, session_ran, session_stepped, sessions_without, server_found, server_ran, server_stepped, side_of, with_downs, without_each, without_joined}
+use Rattle.fs_world.specs.declared.servers.session_state.SessionState.{SessionState}
+use Rattle.fs_world.specs.declared.servers.world.Served.{Served}
 
 -- what an event of a session finds, and what one leaves that came to this
-abbrev pub seat_found : Seat → List Item → Packets → SeatStepped
-seat_found seat journal packets = record {
-  seat = seat;
+abbrev pub session_found : SessionState → List Item → Packets → SessionStepped
+session_found state journal packets = record {
+  state = state;
   journal = journal;
   packets = packets;
   outcome = outcome_of None note.Nothing;
   spent = None;
 }
 
-abbrev pub seat_left : Outcome → Seat → List Item → Packets → SeatStepped
-seat_left told seat journal packets = record (seat_found seat journal packets) { outcome = told }
+abbrev pub session_left : Outcome → SessionState → List Item → Packets → SessionStepped
+session_left outcome state journal packets = record (session_found state journal packets) { outcome = outcome }
 
 -- what an event of a server leaves that came to this
-abbrev pub server_left : Outcome → Server → Links → Seats → List InFlight → List Item → Packets → ServerStepped
-server_left told s post seats in_flight journal packets = record (server_found s post seats in_flight journal packets) { outcome = told }
+abbrev pub server_left : Outcome → Server → Links → SessionStates → List InFlight → List Item → Packets → ServerStepped
+server_left outcome s post sessions in_flight journal packets =
+    record (server_found s post sessions in_flight journal packets) { outcome = outcome }
 
 -- the world that an event leaves that came to this
 abbrev pub world_left : Outcome → Served → Stepped
-world_left told w = record (nothing w) { outcome = told }
+world_left outcome w = record (nothing w) { outcome = outcome }
 
 -- the counter that an event would raise above its end is the one for which the call gives up, where memory is not wanting
 pub record Spends {T : Type 0} (result : Result T CoreError) (spent : Option Counter) : Type 0 where
@@ -61,37 +62,37 @@ pub record Spends {T : Type 0} (result : Result T CoreError) (spent : Option Cou
 -- ## Parts of events
 
 -- nothing happens at the session but that what is due goes out
-abbrev pub seat_goes : Session → Bool → Option Peer → Note → Seat → List Item → Packets → SeatStepped
-seat_goes s turn heard n seat journal packets = seat_stepped s (actor.client_goes turn heard n (side_of seat)) seat.down seat journal packets
+abbrev pub state_goes : Session → Bool → Option Peer → Note → SessionState → List Item → Packets → SessionStepped
+state_goes s turn heard n state journal packets = session_stepped s (actor.client_goes turn heard n (side_of state)) state.down state journal packets
 
 -- its client does what it planned
-abbrev pub client_does : Session → Bool → Option Peer → Bool → Planned Note → Seat → List Item → Packets → SeatStepped
-client_does s turn heard spent p seat journal packets = seat_stepped s (actor.client_does turn heard spent p (side_of seat)) seat.down seat journal packets
+abbrev pub client_does : Session → Bool → Option Peer → Bool → Planned Note → SessionState → List Item → Packets → SessionStepped
+client_does s turn heard spent p state journal packets = session_stepped s (actor.client_does turn heard spent p (side_of state)) state.down state journal packets
 
 -- what it heard of the server of number k, where this was one answer at most
-abbrev pub client_hears_one : ℕ → Session → ℕ → Option Peer → Heard → Option Answer → Seat → List Item → Packets → SeatStepped
-client_hears_one now s k from h heard seat journal packets = seat_stepped s (actor.client_hears now k from h heard (side_of seat)) seat.down seat journal packets
+abbrev pub client_hears_one : ℕ → Session → ℕ → Option Peer → Heard → Option Answer → SessionState → List Item → Packets → SessionStepped
+client_hears_one now s k from h heard state journal packets = session_stepped s (actor.client_hears now k from h heard (side_of state)) state.down state journal packets
 
 -- an answer of the server of number k comes to it
-abbrev pub client_takes : ℕ → Session → ℕ → Option Peer → Answer → Seat → List Item → Packets → SeatStepped
-client_takes now s k from a seat journal packets = client_does s false from false (client_noted (answer_plan seat.client now k a)) seat journal packets
+abbrev pub client_takes : ℕ → Session → ℕ → Option Peer → Answer → SessionState → List Item → Packets → SessionStepped
+client_takes now s k from a state journal packets = client_does s false from false (client_noted (answer_plan state.client now k a)) state journal packets
 
 -- what came of all that it heard, while no answer is taken off its way
-abbrev pub client_heard : ℕ → Session → ℕ → Option Peer → Heard → Seat → List Item → Packets → SeatStepped
-client_heard now s k from h seat journal packets =
-    seat_ran s (client_takes_all s now (TheServer k) from (record { links = seat.post; heard = h }) seat.client) seat.down seat journal packets
+abbrev pub client_heard : ℕ → Session → ℕ → Option Peer → Heard → SessionState → List Item → Packets → SessionStepped
+client_heard now s k from h state journal packets =
+    session_ran s (client_takes_all s now (TheServer k) from (record { links = state.post; heard = h }) state.client) state.down state journal packets
 
--- what came of a run at a session: its client and its links are these, these are the packets behind those before, and this is told
-pub record IsRun (x : ClientRun) (s : Session) (before : Packets) (told : Outcome) (client : ClientCore) (post : Links) (packets : Packets) : Type 0 where
+-- what came of a run at a session: its client and its links are these, these are the packets behind those before, and this is its outcome
+pub record IsRun (x : ClientRun) (s : Session) (before : Packets) (outcome : Outcome) (client : ClientCore) (post : Links) (packets : Packets) : Type 0 where
   pub client_then : client ≡ x.client
   pub post_then : post ≡ x.post
   pub packets_then : packets ≡ with_sent x.packets before
-  pub told_then : told ≡ record { who = Some (TheClient s); notes = x.notes; sent = numbers_from (length before.sent) x.packets }
+  pub outcome_then : outcome ≡ record { who = Some (TheClient s); notes = x.notes; sent = numbers_from (length before.sent) x.packets }
   pub unspent : x.spent ≡ None
 
 -- what it heard of the server of number k, which is on its way no more
-abbrev pub client_hears : ℕ → Session → ℕ → Option Peer → Heard → Seat → List Item → Packets → SeatStepped
-client_hears now s k from h seat journal packets = client_heard now s k from h (record seat { down = without_each h.joined (is_with k) seat.down }) journal packets
+abbrev pub client_hears : ℕ → Session → ℕ → Option Peer → Heard → SessionState → List Item → Packets → SessionStepped
+client_hears now s k from h state journal packets = client_heard now s k from h (record state { down = without_each h.joined (is_with k) state.down }) journal packets
 
 -- nothing happens at the server but that what is due goes out
 abbrev pub server_goes : ℕ → Bool → Option Peer → Note → Option Counter → ServerStepped → ServerStepped
@@ -116,15 +117,16 @@ server_heard now k from replied h x =
     server_ran k (server_takes_all now from replied (record { links = x.post; heard = h }) x.server) x
 
 -- what came of a run at a server: it and its links are these, what it sends and admits stands behind what was there, these are the
--- packets behind those before, and this is told
-pub record IsServerRun (y : ServerRun) (k : ℕ) (before : ServerStepped) (told : Outcome) (s : Server) (post : Links) (seats : Seats) (in_flight : List InFlight) (journal : List Item) (packets : Packets) : Type 0 where
+-- packets behind those before, and this is its outcome
+pub record IsServerRun (y : ServerRun) (k : ℕ) (before : ServerStepped) (outcome : Outcome) (s : Server) (post : Links) (sessions : SessionStates) (in_flight : List InFlight) (journal : List Item) (packets : Packets) : Type 0 where
   pub server_then : s ≡ y.server
   pub post_then : post ≡ y.post
-  pub seats_then : seats ≡ with_downs k y.send before.seats
+  pub sessions_then : sessions ≡ with_downs k y.send before.sessions
   pub flying_then : in_flight ≡ before.in_flight ++ in_flight_from k y.send
   pub journal_then : journal ≡ before.journal ++ y.admitted
   pub packets_then : packets ≡ with_sent y.packets before.packets
-  pub told_then : told ≡ record { who = Some (TheServer k); notes = y.notes; sent = numbers_from (length before.packets.sent) y.packets }
+  pub outcome_then : outcome ≡
+      record { who = Some (TheServer k); notes = y.notes; sent = numbers_from (length before.packets.sent) y.packets }
   pub unspent : y.spent ≡ None
 
 -- what it heard of the actor, which is on its way no more
@@ -133,13 +135,13 @@ server_hears now k from replied h x = server_heard now k from replied h (without
 
 -- the first message of the actor is on its way no more
 abbrev pub without_message : ℕ → Peer → ServerStepped → ServerStepped
-without_message k from x = record x { seats = seats_without k from x.seats; in_flight = flying_without k from x.in_flight }
+without_message k from x = record x { sessions = sessions_without k from x.sessions; in_flight = flying_without k from x.in_flight }
 
 -- the server has changed as planned, and what it admitted and sends stands where it is to stand
 abbrev pub with_plan : ℕ → Plan → ServerStepped → ServerStepped
 with_plan k p x = record x {
   server = committed p x.server;
-  seats = with_downs k p.out.send x.seats;
+  sessions = with_downs k p.out.send x.sessions;
   in_flight = x.in_flight ++ in_flight_from k p.out.send;
   journal = x.journal ++ p.out.admitted;
 }

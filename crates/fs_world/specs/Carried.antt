@@ -23,34 +23,34 @@ use Rattle.fs_window.specs.declared.sent.Sent.{Sent}
 use Rattle.fs_world.specs.World.{step}
 use Rattle.fs_world.specs.declared.form.Form.{Form}
 use Rattle.fs_world.specs.declared.form.Form.TheVariants as form
-use Rattle.fs_world.specs.declared.seat.Seat.{Seat}
-use Rattle.fs_world.specs.declared.served.Served.{Served}
+use Rattle.fs_world.specs.declared.servers.session_state.SessionState.{SessionState}
+use Rattle.fs_world.specs.declared.servers.world.Served.{Served}
 
 -- ## Who there is, and what is on its way between two
 
-abbrev pub seat_post : Option Seat → Option Links
-seat_post seat = option_map (λ (x : Seat). x.post) seat
+abbrev pub state_post : Option SessionState → Option Links
+state_post state = option_map (λ (x : SessionState). x.post) state
 
 -- the links of an actor, if there is one: of a session that has joined, or of a server
 abbrev pub post_of : Served → Peer → Option Links
-post_of w (Client s) = seat_post (get w.seats s.0)
+post_of w (Client s) = state_post (get w.sessions s.0)
 post_of w (Server k) = slice_get w.posts k
 
-abbrev pub ups_of : ℕ → Option Seat → List Msg
+abbrev pub ups_of : ℕ → Option SessionState → List Msg
 ups_of k None = []
-ups_of k (Some seat) = map (λ (m : ℕ × ClientMsg). msg.Client m.1) (filter (is_with k) seat.up)
+ups_of k (Some state) = map (λ (m : ℕ × ClientMsg). msg.Client m.1) (filter (is_with k) state.up)
 
-abbrev pub downs_of : ℕ → Option Seat → List Msg
+abbrev pub downs_of : ℕ → Option SessionState → List Msg
 downs_of k None = []
-downs_of k (Some seat) = map (λ (m : ℕ × Answer). msg.Answer m.1) (filter (is_with k) seat.down)
+downs_of k (Some state) = map (λ (m : ℕ × Answer). msg.Answer m.1) (filter (is_with k) state.down)
 
 abbrev pub flying_between : ℕ → ℕ → List InFlight → List Msg
 flying_between j k in_flight = map (λ (f : InFlight). msg.Peer f.message) (filter (is_between j k) in_flight)
 
 -- the messages from one actor to another, in order
 abbrev pub between : Served → Peer → Peer → List Msg
-between w (Client s) (Server k) = ups_of k (get w.seats s.0)
-between w (Server k) (Client s) = downs_of k (get w.seats s.0)
+between w (Client s) (Server k) = ups_of k (get w.sessions s.0)
+between w (Server k) (Client s) = downs_of k (get w.sessions s.0)
 between w (Server j) (Server k) = flying_between j k w.in_flight
 between w (Client s) (Client t) = []
 

@@ -9,7 +9,7 @@ use Rattle.fs_msg.specs.declared.item.Item.{Item}
 use Rattle.fs_record.specs.declared.led_end.LedEnd.TheVariants as end
 use Rattle.fs_client.specs.declared.led.Led.{Led}
 use Rattle.fs_serial.specs.Cluster.{Lines}
-use Rattle.fs_world.specs.Order.{AreAsTold, Told}
+use Rattle.fs_world.specs.Order.{AreAsTold, ReplyGiven}
 
 -- what is led, as the journal has it
 abbrev pub led_item : Session → Led → Reply → Item
@@ -25,7 +25,7 @@ items_with x led [] = []
 items_with x led (m ∷ rest) = item_with x led m.1 ++ items_with x led rest
 
 -- these items are what was told, one for one, and then what is on its way
-pub record IsTold (x : Session) (l : Lines) (items : List Item) (all : List Told) : Type 0 where
+pub record IsTold (x : Session) (l : Lines) (items : List Item) (all : List ReplyGiven) : Type 0 where
   pub front : List Item
   pub split : items ≡ front ++ items_with x l.client.led l.down
   pub told : AreAsTold front all

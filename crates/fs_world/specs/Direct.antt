@@ -20,7 +20,7 @@ use Rattle.fs_msg.specs.declared.note.Note.TheVariants as note
 use Rattle.fs_schedule.specs.declared.event.What.{What}
 use Rattle.fs_schedule.specs.declared.event.What.TheVariants.{Join, Do}
 use Rattle.fs_schedule.specs.declared.outcome.Outcome.{Outcome}
-use Rattle.fs_world.specs.declared.direct.Direct.{Direct}
+use Rattle.fs_world.specs.declared.direct.world.Direct.{Direct}
 
 -- the number of each directory's next child; a directory that is not in it has 1
 abbrev pub Numbers : Type 0

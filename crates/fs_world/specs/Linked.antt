@@ -37,13 +37,13 @@ use Rattle.fs_window.specs.declared.packet.Packet.{Packet}
 use Rattle.fs_window.specs.declared.sent.Sent.{Sent}
 use Rattle.fs_wire.specs.Readable.{is_readable_session}
 use Rattle.fs_world.specs.Within.{IsInRange}
-pub use Rattle.fs_world.specs.Carried.{AreFirstOf, between, downs_of, flying_between, post_of, seat_post, ups_of}
+pub use Rattle.fs_world.specs.Carried.{AreFirstOf, between, downs_of, flying_between, post_of, state_post, ups_of}
 use Rattle.fs_world.specs.Readable.{HandlesOpen, LogReadable, RecordsOpen}
-use Rattle.fs_world.specs.Served.{Seats, link_width}
+use Rattle.fs_world.specs.Served.{SessionStates, link_width}
 use Rattle.fs_world.specs.declared.form.Form.{Form}
 use Rattle.fs_world.specs.declared.form.Form.TheVariants as form
-use Rattle.fs_world.specs.declared.seat.Seat.{Seat}
-use Rattle.fs_world.specs.declared.served.Served.{Served}
+use Rattle.fs_world.specs.declared.servers.session_state.SessionState.{SessionState}
+use Rattle.fs_world.specs.declared.servers.world.Served.{Served}
 use Rattle.fs_msg.specs.declared.peer_msg.PeerMsg.{PeerMsg}
 use Rattle.fs_msg.specs.declared.peer_msg.PeerMsg.TheVariants.{Parcel as OfParcel}
 
@@ -119,56 +119,56 @@ IsNamedAnswer servers a = Unit {0}
 
 -- ## All of it
 
-abbrev pub HasJoined : Seats → Session → Type 0
-HasJoined seats s = (seat : Seat) × (get seats s.0 ≡ Some seat)
+abbrev pub HasJoined : SessionStates → Session → Type 0
+HasJoined sessions s = (state : SessionState) × (get sessions s.0 ≡ Some state)
 
 -- each row is of a session that has joined
-abbrev pub AreOfJoined : Seats → List Row → Type 0
-AreOfJoined seats rows = (row : Row) → In row rows → HasJoined seats row.session
+abbrev pub AreOfJoined : SessionStates → List Row → Type 0
+AreOfJoined sessions rows = (row : Row) → In row rows → HasJoined sessions row.session
 
 -- a server knows only of servers that there are, has rows of sessions that have joined, and handles that can be told
-pub record IsServed (servers : ℕ) (seats : Seats) (k : ℕ) (s : Core) : Type 0 where
+pub record IsServed (servers : ℕ) (sessions : SessionStates) (k : ℕ) (s : Core) : Type 0 where
   pub me : s.me ≡ k
   pub named : AreNamed servers s.map
   pub records : AreRecords s.records
   pub handles : HandlesOpen s.records
-  pub rows : AreOfJoined seats s.rows
+  pub rows : AreOfJoined sessions s.rows
 
 -- a session asks servers that there are, and is told of such
-pub record IsSeated (servers : ℕ) (s : Session) (seat : Seat) : Type 0 where
+pub record IsSoundState (servers : ℕ) (s : Session) (state : SessionState) : Type 0 where
   pub number : is_readable_session s ≡ true
-  pub session : seat.client.session ≡ s
-  pub log : LogReadable seat.client
-  pub hints : AreNamed servers seat.client.hints
-  pub up : (m : ℕ × ClientMsg) → In m seat.up → m.0 < servers
-  pub down : (m : ℕ × Answer) → In m seat.down → (m.0 < servers) × IsNamedAnswer servers m.1
+  pub session : state.client.session ≡ s
+  pub log : LogReadable state.client
+  pub hints : AreNamed servers state.client.hints
+  pub up : (m : ℕ × ClientMsg) → In m state.up → m.0 < servers
+  pub down : (m : ℕ × Answer) → In m state.down → (m.0 < servers) × IsNamedAnswer servers m.1
 
 -- a parcel has whole records, handles that can be told, and rows of sessions that have joined
-pub record IsParcelOf (seats : Seats) (p : Parcel) : Type 0 where
+pub record IsParcelOf (sessions : SessionStates) (p : Parcel) : Type 0 where
   pub each : AreEachRecords p.records
   pub handles : RecordsOpen p.records
-  pub rows : AreOfJoined seats p.rows
+  pub rows : AreOfJoined sessions p.rows
 
 -- the message hands over such a parcel: what a server leads it has whole
-abbrev pub BringsParcel : Seats → PeerMsg → Type 0
-BringsParcel seats (OfParcel p) = IsParcelOf seats p
-BringsParcel seats m = ⊥
+abbrev pub BringsParcel : SessionStates → PeerMsg → Type 0
+BringsParcel sessions (OfParcel p) = IsParcelOf sessions p
+BringsParcel sessions m = ⊥
 
 -- a message goes from one server to another, and so is the parcel that it brings
-pub record IsCarried (servers : ℕ) (seats : Seats) (f : InFlight) : Type 0 where
+pub record IsCarried (servers : ℕ) (sessions : SessionStates) (f : InFlight) : Type 0 where
   pub from : f.from < servers
   pub to : f.to < servers
   pub apart : f.from ≢ f.to
-  pub parcel : BringsParcel seats f.message
+  pub parcel : BringsParcel sessions f.message
 
 pub record IsLinked (w : Served) : Type 0 where
   pub posts : length w.posts ≡ length w.servers
   pub some : 1 ≤ length w.servers
   pub few : length w.servers ≤ SERVERS
   pub ties : AreTied w
-  pub servers : (k : ℕ) (s : Core) → slice_get w.servers k ≡ Some s → IsServed (length w.servers) w.seats k s
-  pub seats : (s : Session) (seat : Seat) → get w.seats s.0 ≡ Some seat → IsSeated (length w.servers) s seat
-  pub in_flight : (f : InFlight) → In f w.in_flight → IsCarried (length w.servers) w.seats f
+  pub servers : (k : ℕ) (s : Core) → slice_get w.servers k ≡ Some s → IsServed (length w.servers) w.sessions k s
+  pub sessions : (s : Session) (state : SessionState) → get w.sessions s.0 ≡ Some state → IsSoundState (length w.servers) s state
+  pub in_flight : (f : InFlight) → In f w.in_flight → IsCarried (length w.servers) w.sessions f
 
 -- ## What a core sends
 

@@ -35,14 +35,14 @@ AreNumberedFrom k (i ∷ is) = (i.n ≡ k) × AreNumberedFrom (k + 1) is
 -- ## What sessions were told
 
 -- a reply that a session was given, with the number of its operation and the operation as it was asked
-pub record Told : Type 0 where
+pub record ReplyGiven : Type 0 where
   pub session : Session
   pub n : ℕ
   pub asked : Op
   pub reply : Reply
 
 -- the replies among the notes on the session's operation
-abbrev pub replies_in : Session → Op → List Note → List Told
+abbrev pub replies_in : Session → Op → List Note → List ReplyGiven
 replies_in s o [] = []
 replies_in s o (note.Answered n r ∷ ns) = record { session = s; n = n; asked = o; reply = r } ∷ replies_in s o ns
 replies_in s o (note.Act (Replied n r) ∷ ns) = record { session = s; n = n; asked = o; reply = r } ∷ replies_in s o ns
@@ -63,21 +63,21 @@ leads_in s o (note.Act (Leading n to) ∷ ns) leads = leads_in s o ns (with_lead
 leads_in s o (_ ∷ ns) leads = leads_in s o ns leads
 
 -- the reply that is told with the end of what was led
-abbrev pub reply_told : Note → Option (ℕ × Reply)
-reply_told (note.Client (Led n r)) = Some (n, r)
-reply_told n = None
+abbrev pub reply_given : Note → Option (ℕ × Reply)
+reply_given (note.Client (Led n r)) = Some (n, r)
+reply_given n = None
 
-abbrev pub told_with : Session → Op → Option (ℕ × Reply) → List Told
+abbrev pub told_with : Session → Op → Option (ℕ × Reply) → List ReplyGiven
 told_with s o None = []
 told_with s o (Some x) = record { session = s; n = x.0; asked = o; reply = x.1 } ∷ []
 
 -- those among the session's notes, where it was that operation
-abbrev pub ended_in : Session → Option Op → List Note → List Told
-ended_in s (Some o) (n ∷ ns) = told_with s o (reply_told n) ++ ended_in s (Some o) ns
+abbrev pub ended_in : Session → Option Op → List Note → List ReplyGiven
+ended_in s (Some o) (n ∷ ns) = told_with s o (reply_given n) ++ ended_in s (Some o) ns
 ended_in s o notes = []
 
 -- what the notes tell: to an operation at once, or later with an answer
-abbrev pub told_at : What → Option Peer → List Note → Leads → List Told
+abbrev pub told_at : What → Option Peer → List Note → Leads → List ReplyGiven
 told_at (Do s o) who notes leads = replies_in s o notes
 told_at (Tell number) (Some (Client s)) notes leads = ended_in s (leads s) notes
 told_at what who notes leads = []
@@ -88,7 +88,7 @@ leads_at what notes leads = leads
 
 -- what sessions were told so far, in order
 pub record Tale : Type 0 where
-  pub told : List Told
+  pub told : List ReplyGiven
   pub leads : Leads
 
 abbrev pub first_tale : Tale
@@ -103,8 +103,8 @@ tale_of t (e ∷ es) (o ∷ os) = tale_of (after e.what o t) es os
 tale_of t es os = t
 
 -- what the outcomes of the events told, in order
-abbrev pub told_of : List Event → List Outcome → List Told
-told_of es os = (tale_of first_tale es os).told
+abbrev pub replies_given : List Event → List Outcome → List ReplyGiven
+replies_given es os = (tale_of first_tale es os).told
 
 -- ## The journal against what was told
 
@@ -114,33 +114,33 @@ SameButId (op.Create dir name kind id) done = (given : Option (List ℕ)) × (do
 SameButId o done = o ≡ done
 
 -- the item has the session and the number of what was told
-pub record HasNumberOf (i : Item) (t : Told) : Type 0 where
+pub record HasNumberOf (i : Item) (t : ReplyGiven) : Type 0 where
   pub by : i.by ≡ Client t.session
   pub n : i.n ≡ t.n
 
 -- the item has the operation and the reply of what was told
-pub record Agrees (i : Item) (t : Told) : Type 0 where
+pub record Agrees (i : Item) (t : ReplyGiven) : Type 0 where
   pub op : SameButId t.asked i.op
   pub reply : i.reply ≡ t.reply
 
 -- what was told to the session, in order
-abbrev pub told_to : Session → List Told → List Told
-told_to s told = filter (λ (t : Told). s.0 == t.session.0) told
+abbrev pub told_to : Session → List ReplyGiven → List ReplyGiven
+told_to s told = filter (λ (t : ReplyGiven). s.0 == t.session.0) told
 
 -- the items are what was told, one for one
-abbrev pub AreAsTold : List Item → List Told → Type 0
+abbrev pub AreAsTold : List Item → List ReplyGiven → Type 0
 AreAsTold [] [] = Unit {0}
 AreAsTold (i ∷ is) (t ∷ ts) = HasNumberOf i t × Agrees i t × AreAsTold is ts
 AreAsTold is ts = ⊥
 
 -- each actor's items are numbered from 1, and where one has the number of what was told it agrees
-pub record IsInSessionOrder (journal : List Item) (told : List Told) : Type 0 where
+pub record IsInSessionOrder (journal : List Item) (told : List ReplyGiven) : Type 0 where
   pub numbered : (who : Peer) → AreNumberedFrom 1 (items_of who journal)
-  pub agreeing : (t : Told) (i : Item) → In t told → In i journal → HasNumberOf i t → Agrees i t
+  pub agreeing : (t : ReplyGiven) (i : Item) → In t told → In i journal → HasNumberOf i t → Agrees i t
 
 -- the journal has what was told
-abbrev pub IsAdmitted : List Item → Told → Type 0
+abbrev pub IsAdmitted : List Item → ReplyGiven → Type 0
 IsAdmitted journal t = (i : Item) × In i journal × HasNumberOf i t × Agrees i t
 
-abbrev pub AllAdmitted : List Item → List Told → Type 0
-AllAdmitted journal told = (t : Told) → In t told → IsAdmitted journal t
+abbrev pub AllAdmitted : List Item → List ReplyGiven → Type 0
+AllAdmitted journal told = (t : ReplyGiven) → In t told → IsAdmitted journal t

@@ -15,7 +15,7 @@ use Rattle.fs_msg.specs.declared.server_note.ServerNote.TheVariants as server
 use Rattle.fs_schedule.specs.declared.event.Event.{Event}
 use Rattle.fs_schedule.specs.declared.event.What.{What}
 use Rattle.fs_window.specs.declared.sent.Sent.{Sent}
-use Rattle.fs_world.specs.Refusals.{packet_told}
+use Rattle.fs_world.specs.Refusals.{packet_delivered}
 use Rattle.fs_world.specs.World.{step}
 use Rattle.fs_world.specs.declared.form.Form.{Form}
 use Rattle.fs_world.specs.declared.form.Form.TheVariants.{Direct, Served}
@@ -48,7 +48,7 @@ all_said from who (n ∷ ns) = said_in from who n ++ all_said from who ns
 -- the actor whose packet the event tells
 abbrev pub sender_in : Form → What → Option Peer
 sender_in (Direct w) what = None
-sender_in (Served w) what = option_map (λ (x : Sent). x.from) (packet_told w what)
+sender_in (Served w) what = option_map (λ (x : Sent). x.from) (packet_delivered w what)
 
 abbrev pub said_at : Form → Event → List Said
 said_at w e = all_said (sender_in w e.what) (step w e).outcome.who (step w e).outcome.notes

@@ -5,23 +5,23 @@ use Rattle.fs_window.specs.declared.sent.Sent.{Sent}
 -- a mark for each packet, in order of sending
 pub record Packets : Type 0 where
   pub sent : List Sent
-  pub told : List Bool
+  pub delivered : List Bool
 
 abbrev pub no_packets : Packets
-no_packets = record { sent = []; told = [] }
+no_packets = record { sent = []; delivered = [] }
 
 -- with more packets, of which none was told yet
 abbrev pub with_sent : List Sent → Packets → Packets
-with_sent more p = record { sent = p.sent ++ more; told = p.told ++ map (λ (x : Sent). false) more }
+with_sent more p = record { sent = p.sent ++ more; delivered = p.delivered ++ map (λ (x : Sent). false) more }
 
-abbrev pub with_told : ℕ → Packets → Packets
-with_told k p = record p { told = slice_set p.told k true }
+abbrev pub with_delivered : ℕ → Packets → Packets
+with_delivered k p = record p { delivered = slice_set p.delivered k true }
 
 -- the number of the first that was never told, or how many there are
-abbrev pub first_untold : List Bool → ℕ
-first_untold [] = 0
-first_untold (false ∷ ts) = 0
-first_untold (true ∷ ts) = first_untold ts + 1
+abbrev pub first_undelivered : List Bool → ℕ
+first_undelivered [] = 0
+first_undelivered (false ∷ ts) = 0
+first_undelivered (true ∷ ts) = first_undelivered ts + 1
 
 -- the numbers of these packets, of which the first has the number n
 abbrev pub numbers_from : ℕ → List Sent → List ℕ
@@ -29,6 +29,6 @@ numbers_from n [] = []
 numbers_from n (x ∷ xs) = n ∷ numbers_from (n + 1) xs
 
 -- there is a mark for each packet, and this is the number of the first that was not told
-pub record AreMarked (sent : List Sent) (told : List Bool) (next : ℕ) : Type 0 where
-  pub marks : length told ≡ length sent
-  pub first : next ≡ first_untold told
+pub record AreMarked (sent : List Sent) (delivered : List Bool) (next : ℕ) : Type 0 where
+  pub marks : length delivered ≡ length sent
+  pub first : next ≡ first_undelivered delivered

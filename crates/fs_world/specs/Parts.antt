@@ -12,37 +12,38 @@ use Rattle.fs_serial.specs.Runs.{IsOrderly}
 use Rattle.fs_serial.specs.Seen.{ClusterHolds, ends_of}
 use Rattle.fs_serial.specs.World.{settled_at}
 use Rattle.fs_world.specs.Coming.{IsTold}
-use Rattle.fs_world.specs.Order.{Told, told_of, told_to}
-use Rattle.fs_world.specs.Served.{Seats}
+use Rattle.fs_world.specs.Order.{ReplyGiven, replies_given, told_to}
+use Rattle.fs_world.specs.Served.{SessionStates}
 use Rattle.fs_world.specs.World.{Run}
 use Rattle.fs_world.specs.declared.form.Form.{Form}
 use Rattle.fs_world.specs.declared.form.Form.TheVariants as form
-use Rattle.fs_world.specs.declared.seat.Seat.{Seat}
-use Rattle.fs_world.specs.declared.served.Served.{Served}
+use Rattle.fs_world.specs.declared.servers.session_state.SessionState.{SessionState}
+use Rattle.fs_world.specs.declared.servers.world.Served.{Served}
 
 -- the client, and what is on its way; a session that has not joined is as it will join
-abbrev pub lines_in : ℕ → Session → Option Seat → Lines
+abbrev pub lines_in : ℕ → Session → Option SessionState → Lines
 lines_in term x None = first_lines term x
-lines_in term x (Some seat) = record { client = seat.client; up = seat.up; down = seat.down }
+lines_in term x (Some state) = record { client = state.client; up = state.up; down = state.down }
 
-abbrev pub lines_of : ℕ → Seats → Session → Lines
-lines_of term seats x = lines_in term x (get seats x.0)
+abbrev pub lines_of : ℕ → SessionStates → Session → Lines
+lines_of term sessions x = lines_in term x (get sessions x.0)
 
 -- what each session was told is kept beside
 abbrev pub seen : (Session → List Item) → Served → Cluster
-seen replied w = record { servers = w.servers; in_flight = w.in_flight; journal = w.journal; replied = replied; lines = lines_of w.term w.seats }
+seen replied w =
+    record { servers = w.servers; in_flight = w.in_flight; journal = w.journal; replied = replied; lines = lines_of w.term w.sessions }
 
 -- what each session was told, as the journal and its client have it: its items, and then its log as that will be
 abbrev pub replied_in : Served → Session → List Item
-replied_in w x = all_items x w.journal (settled_at x (ends_of (lines_of w.term w.seats x))).log
+replied_in w x = all_items x w.journal (settled_at x (ends_of (lines_of w.term w.sessions x))).log
 
 -- where no reading was greater and this was told: all parts of the invariant hold, and those items are what the notes told each session, and what is on its way to it
-pub record ServedHold (skew greatest : ℕ) (told : List Told) (w : Served) : Type 0 where
+pub record ServedHold (skew greatest : ℕ) (told : List ReplyGiven) (w : Served) : Type 0 where
   pub parts : ClusterHolds skew greatest (seen (replied_in w) w)
-  pub replies : (x : Session) → IsTold x (lines_of w.term w.seats x) (replied_in w x) (told_to x told)
+  pub replies : (x : Session) → IsTold x (lines_of w.term w.sessions x) (replied_in w x) (told_to x told)
 
 -- the direct form has no parts
-abbrev pub PartsHold : Head → ℕ → List Told → Form → Type 0
+abbrev pub PartsHold : Head → ℕ → List ReplyGiven → Form → Type 0
 PartsHold head.Direct greatest told (form.Direct w) = Unit {0}
 PartsHold (head.Servers servers skew term) greatest told (form.Served w) = ServedHold skew greatest told w
 PartsHold h greatest told w = ⊥
@@ -54,7 +55,7 @@ greatest_of greatest (e ∷ es) = greatest_of (max greatest e.reading) es
 
 -- after the run of these events
 abbrev pub AllPartsHold : Head → List Event → Run → Type 0
-AllPartsHold h events r = PartsHold h (greatest_of 0 events) (told_of events r.outcomes) r.world
+AllPartsHold h events r = PartsHold h (greatest_of 0 events) (replies_given events r.outcomes) r.world
 
 -- everything is at its place, no two rows conflict, and the namespace that the servers hold together is sound; the direct form has no places
 abbrev pub IsOrderlyWorld : Form → Type 0

@@ -21,36 +21,36 @@ use Rattle.fs_serial.specs.Refusals.{IsFairEnd}
 use Rattle.fs_schedule.specs.declared.outcome.Outcome.{Outcome}
 use Rattle.fs_server.specs.declared.state.Server.{Server as Core}
 use Rattle.fs_window.specs.declared.sent.Sent.{Sent}
-use Rattle.fs_world.specs.Packets.{first_untold}
+use Rattle.fs_world.specs.Packets.{first_undelivered}
 use Rattle.fs_world.specs.World.{step}
 use Rattle.fs_world.specs.declared.form.Form.{Form}
 use Rattle.fs_world.specs.declared.form.Form.TheVariants.{Direct, Served}
-use Rattle.fs_world.specs.declared.seat.Seat.{Seat}
-use Rattle.fs_world.specs.declared.served.Served.{Served as TheServed}
+use Rattle.fs_world.specs.declared.servers.session_state.SessionState.{SessionState}
+use Rattle.fs_world.specs.declared.servers.world.Served.{Served as TheServed}
 
 -- ## Refused entries
 
 -- the packet that the event tells, if it tells one that was sent
-abbrev pub packet_told : TheServed → What → Option Sent
-packet_told w (Tell None) = slice_get w.packets.sent (first_untold w.packets.told)
-packet_told w (Tell (Some k)) = slice_get w.packets.sent k
-packet_told w what = None
+abbrev pub packet_delivered : TheServed → What → Option Sent
+packet_delivered w (Tell None) = slice_get w.packets.sent (first_undelivered w.packets.delivered)
+packet_delivered w (Tell (Some k)) = slice_get w.packets.sent k
+packet_delivered w what = None
 
 -- the event tells a packet of a session to a server, and the first message on its way from the one to the other hands in these
 -- entries
 pub record HandsIn (w : TheServed) (what : What) : Type 0 where
   pub packet : Sent
-  pub told : packet_told w what ≡ Some packet
+  pub delivered : packet_delivered w what ≡ Some packet
   pub by : Session
   pub sender : packet.from ≡ peer.Client by
   pub to : ℕ
   pub addressee : packet.to ≡ peer.Server to
   pub server : Core
   pub there : slice_get w.servers to ≡ Some server
-  pub seat : Seat
-  pub joined : get w.seats by.0 ≡ Some seat
+  pub state : SessionState
+  pub joined : get w.sessions by.0 ≡ Some state
   pub entries : List Entry
-  pub first : find (is_with to) seat.up ≡ Some (to, Ship entries)
+  pub first : find (is_with to) state.up ≡ Some (to, Ship entries)
 
 -- so a server answers a log: the event hands it in, and the answer is fair at the greater of the event's reading and the server's
 -- last one, where these are all rows; the direct form has no servers

@@ -8,7 +8,7 @@ use Rattle.fs_model.specs.Sound.{IsSound, AreApart}
 use Rattle.fs_msg.specs.Journal.{IsSerialRun, spaces_after}
 use Rattle.fs_schedule.specs.declared.event.Event.{Event}
 use Rattle.fs_world.specs.World.{Run, journal_of, space_of}
-use Rattle.fs_world.specs.Order.{IsInSessionOrder, told_of}
+use Rattle.fs_world.specs.Order.{IsInSessionOrder, replies_given}
 
 -- the space is sound, so that no file is its own ancestor, and no two opens of a file conflict
 pub record IsSafe (m : NodeMap) : Type 0 where
@@ -19,6 +19,6 @@ pub record IsSafe (m : NodeMap) : Type 0 where
 -- the journal is one serial run of the namespace, in each session's order, and ends in the world's space
 pub record IsSerial (events : List Event) (r : Run) : Type 0 where
   pub serial : IsSerialRun first_space (journal_of r.world) (space_of r.world)
-  pub ordered : IsInSessionOrder (journal_of r.world) (told_of events r.outcomes)
+  pub ordered : IsInSessionOrder (journal_of r.world) (replies_given events r.outcomes)
   -- it holds after every item
   pub safe : AllByRecursion IsSafe (spaces_after first_space (journal_of r.world))

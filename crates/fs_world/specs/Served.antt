@@ -31,23 +31,23 @@ use Rattle.fs_schedule.specs.declared.event.What.{What}
 use Rattle.fs_schedule.specs.declared.event.What.TheVariants.{Join, Do, Tell, Turn, Recall, Move}
 use Rattle.fs_schedule.specs.declared.outcome.Outcome.{Outcome}
 use Rattle.fs_world.specs.Direct.{outcome_of}
-use Rattle.fs_world.specs.Packets.{Packets, no_packets, with_sent, with_told, first_untold, numbers_from}
-use Rattle.fs_world.specs.declared.seat.Seat.{Seat}
-use Rattle.fs_world.specs.declared.served.Served.{Served}
+use Rattle.fs_world.specs.Packets.{Packets, no_packets, with_sent, with_delivered, first_undelivered, numbers_from}
+use Rattle.fs_world.specs.declared.servers.session_state.SessionState.{SessionState}
+use Rattle.fs_world.specs.declared.servers.world.Served.{Served}
 
 -- ## What stands in it
 
 -- the sessions that have joined, by their numbers: each with its client, its links, and the messages on their way from it
 -- to servers and from servers to it, each with the server's number
-abbrev pub Seats : Type 0
-Seats = FinMap nat_cmp Seat
+abbrev pub SessionStates : Type 0
+SessionStates = FinMap nat_cmp SessionState
 
 -- so many segments may be on their way on each link
 abbrev pub link_width : ℕ
 link_width = LINK_WIDTH
 
-abbrev pub first_seat : ℕ → Session → Seat
-first_seat term s = record { client = first_client s term; post = no_links (Client s) link_width; up = []; down = [] }
+abbrev pub first_session_state : ℕ → Session → SessionState
+first_session_state term s = record { client = first_client s term; post = no_links (Client s) link_width; up = []; down = [] }
 
 -- each server has links
 abbrev pub first_posts : ℕ → List Links
@@ -60,7 +60,7 @@ first_served servers skew term = record {
   servers = first_servers servers skew term;
   posts = first_posts servers;
   term = term;
-  seats = empty;
+  sessions = empty;
   in_flight = [];
   journal = [];
   packets = no_packets;
@@ -79,16 +79,16 @@ nothing w = record { world = w; outcome = outcome_of None note.Nothing; spent = 
 -- ## A client's events
 
 -- an event of a session concerns what stands at it, the journal and the packets
-pub record SeatStepped : Type 0 where
-  pub seat : Seat
+pub record SessionStepped : Type 0 where
+  pub state : SessionState
   pub journal : List Item
   pub packets : Packets
   pub outcome : Outcome
   pub spent : Option Counter
 
 -- the client of the session, with its links
-abbrev pub side_of : Seat → ClientSide
-side_of seat = record { client = seat.client; post = seat.post }
+abbrev pub side_of : SessionState → ClientSide
+side_of state = record { client = state.client; post = state.post }
 
 -- a message of the session is on its way
 abbrev pub up_after : Option (ℕ × ClientMsg) → List (ℕ × ClientMsg) → List (ℕ × ClientMsg)
@@ -101,9 +101,9 @@ with_read None journal = journal
 with_read (Some i) journal = journal ++ i ∷ []
 
 -- what the client's event leaves, where these answers are still on their way to it
-abbrev pub seat_stepped : Session → ClientStep → List (ℕ × Answer) → Seat → List Item → Packets → SeatStepped
-seat_stepped s x rest seat journal packets = record {
-  seat = record { client = x.client; post = x.post; up = up_after x.send seat.up; down = rest };
+abbrev pub session_stepped : Session → ClientStep → List (ℕ × Answer) → SessionState → List Item → Packets → SessionStepped
+session_stepped s x rest state journal packets = record {
+  state = record { client = x.client; post = x.post; up = up_after x.send state.up; down = rest };
   journal = with_read x.admitted journal;
   packets = with_sent x.packets packets;
   outcome = record { who = Some (Client s); notes = x.note ∷ []; sent = numbers_from (length packets.sent) x.packets };
@@ -111,11 +111,11 @@ seat_stepped s x rest seat journal packets = record {
 }
 
 -- the session's user asks for an operation
-abbrev pub client_acts : ℕ → Session → Op → Seat → List Item → Packets → SeatStepped
-client_acts now s o seat journal packets = seat_stepped s (actor.client_acts now o (side_of seat)) seat.down seat journal packets
+abbrev pub client_acts : ℕ → Session → Op → SessionState → List Item → Packets → SessionStepped
+client_acts now s o state journal packets = session_stepped s (actor.client_acts now o (side_of state)) state.down state journal packets
 
-abbrev pub client_turns : ℕ → Session → Seat → List Item → Packets → SeatStepped
-client_turns now s seat journal packets = seat_stepped s (actor.client_turns now (side_of seat)) seat.down seat journal packets
+abbrev pub client_turns : ℕ → Session → SessionState → List Item → Packets → SessionStepped
+client_turns now s state journal packets = session_stepped s (actor.client_turns now (side_of state)) state.down state journal packets
 
 -- as many messages that pass a test, from the front, are gone as there are of these
 abbrev pub without_each : {X Y : Type 0} → List Y → (X → Bool) → List X → List X
@@ -123,9 +123,9 @@ without_each [] is xs = xs
 without_each (y ∷ ys) is xs = without_each ys is (without_first is xs)
 
 -- what an event of several messages leaves, where these answers are still on their way to it
-abbrev pub seat_ran : Session → ClientRun → List (ℕ × Answer) → Seat → List Item → Packets → SeatStepped
-seat_ran s x rest seat journal packets = record {
-  seat = record { client = x.client; post = x.post; up = seat.up ++ x.send; down = rest };
+abbrev pub session_ran : Session → ClientRun → List (ℕ × Answer) → SessionState → List Item → Packets → SessionStepped
+session_ran s x rest state journal packets = record {
+  state = record { client = x.client; post = x.post; up = state.up ++ x.send; down = rest };
   journal = journal ++ x.admitted;
   packets = with_sent x.packets packets;
   outcome = record { who = Some (Client s); notes = x.notes; sent = numbers_from (length packets.sent) x.packets };
@@ -133,41 +133,41 @@ seat_ran s x rest seat journal packets = record {
 }
 
 -- a packet of the server of number k comes to it: whatever this joins was on its way from there, and is so no more
-abbrev pub client_told : ℕ → Session → ℕ → Packet → Seat → List Item → Packets → SeatStepped
-client_told now s k p seat journal packets =
-    seat_ran s (client_told_all s now (Server k) p (side_of seat))
-    (without_each (post_accepted seat.post (Server k) p).heard.joined (is_with k) seat.down) seat journal packets
+abbrev pub client_receive_packet : ℕ → Session → ℕ → Packet → SessionState → List Item → Packets → SessionStepped
+client_receive_packet now s k p state journal packets =
+    session_ran s (client_told_all s now (Server k) p (side_of state))
+    (without_each (post_accepted state.post (Server k) p).heard.joined (is_with k) state.down) state journal packets
 
 -- ## Where they stand in the world
 
-abbrev pub with_seat : Session → SeatStepped → Served → Stepped
-with_seat s x w = record {
-  world = record w { seats = insert w.seats s.0 x.seat; journal = x.journal; packets = x.packets };
+abbrev pub with_session : Session → SessionStepped → Served → Stepped
+with_session s x w = record {
+  world = record w { sessions = insert w.sessions s.0 x.state; journal = x.journal; packets = x.packets };
   outcome = x.outcome;
   spent = x.spent;
 }
 
 -- a session joins once
-abbrev pub join_at : Option Seat → Session → Served → Stepped
+abbrev pub join_at : Option SessionState → Session → Served → Stepped
 join_at None s w = record {
-  world = record w { seats = insert w.seats s.0 (first_seat w.term s) };
+  world = record w { sessions = insert w.sessions s.0 (first_session_state w.term s) };
   outcome = outcome_of (Some (Client s)) note.Joined;
   spent = None;
 }
-join_at (Some seat) s w = nothing w
+join_at (Some state) s w = nothing w
 
 -- a session that has joined does something
-abbrev pub do_at : Option Seat → ℕ → Session → Op → Served → Stepped
+abbrev pub do_at : Option SessionState → ℕ → Session → Op → Served → Stepped
 do_at None now s o w = nothing w
-do_at (Some seat) now s o w = with_seat s (client_acts now s o seat w.journal w.packets) w
+do_at (Some state) now s o w = with_session s (client_acts now s o state w.journal w.packets) w
 
-abbrev pub turn_at : Option Seat → ℕ → Session → Served → Stepped
+abbrev pub turn_at : Option SessionState → ℕ → Session → Served → Stepped
 turn_at None now s w = nothing w
-turn_at (Some seat) now s w = with_seat s (client_turns now s seat w.journal w.packets) w
+turn_at (Some state) now s w = with_session s (client_turns now s state w.journal w.packets) w
 
-abbrev pub told_at : Option Seat → ℕ → Session → ℕ → Packet → Served → Stepped
-told_at None now s k p w = nothing w
-told_at (Some seat) now s k p w = with_seat s (client_told now s k p seat w.journal w.packets) w
+abbrev pub client_receive_packet_at : Option SessionState → ℕ → Session → ℕ → Packet → Served → Stepped
+client_receive_packet_at None now s k p w = nothing w
+client_receive_packet_at (Some state) now s k p w = with_session s (client_receive_packet now s k p state w.journal w.packets) w
 
 -- ## A server's events
 
@@ -175,7 +175,7 @@ told_at (Some seat) now s k p w = with_seat s (client_told now s k p seat w.jour
 pub record ServerStepped : Type 0 where
   pub server : Core
   pub post : Links
-  pub seats : Seats
+  pub sessions : SessionStates
   pub in_flight : List InFlight
   pub journal : List Item
   pub packets : Packets
@@ -187,25 +187,25 @@ abbrev pub core_of : ServerStepped → ServerSide
 core_of x = record { server = x.server; post = x.post }
 
 -- an answer of the server of number k is on its way to a session that has joined
-abbrev pub with_down_at : Option Seat → ℕ → ℕ × Answer → Seats → Seats
-with_down_at None s m seats = seats
-with_down_at (Some seat) s m seats = insert seats s (record seat { down = seat.down ++ m ∷ [] })
+abbrev pub with_down_at : Option SessionState → ℕ → ℕ × Answer → SessionStates → SessionStates
+with_down_at None s m sessions = sessions
+with_down_at (Some state) s m sessions = insert sessions s (record state { down = state.down ++ m ∷ [] })
 
-abbrev pub with_down : ℕ → Peer × Msg → Seats → Seats
-with_down k (Client s, msg.Answer a) seats = with_down_at (get seats s.0) s.0 (k, a) seats
-with_down k x seats = seats
+abbrev pub with_down : ℕ → Peer × Msg → SessionStates → SessionStates
+with_down k (Client s, msg.Answer a) sessions = with_down_at (get sessions s.0) s.0 (k, a) sessions
+with_down k x sessions = sessions
 
 -- one after another
-abbrev pub with_downs : ℕ → List (Peer × Msg) → Seats → Seats
-with_downs k [] seats = seats
-with_downs k (x ∷ xs) seats = with_downs k xs (with_down k x seats)
+abbrev pub with_downs : ℕ → List (Peer × Msg) → SessionStates → SessionStates
+with_downs k [] sessions = sessions
+with_downs k (x ∷ xs) sessions = with_downs k xs (with_down k x sessions)
 
 -- what the server's event leaves: what it sends is on its way, and what it admits joins the journal
 abbrev pub server_stepped : ℕ → ServerStep → ServerStepped → ServerStepped
 server_stepped k y x = record {
   server = y.server;
   post = y.post;
-  seats = with_downs k y.send x.seats;
+  sessions = with_downs k y.send x.sessions;
   in_flight = x.in_flight ++ in_flight_from k y.send;
   journal = x.journal ++ y.admitted;
   packets = with_sent y.packets x.packets;
@@ -220,36 +220,37 @@ core_step k turn heard now e x = server_stepped k (actor.server_steps turn heard
 -- ## A packet comes to a server
 
 -- the first message of the actor is on its way no more
-abbrev pub without_up : ℕ → Option Seat → ℕ → Seats → Seats
-without_up k None s seats = seats
-without_up k (Some seat) s seats = insert seats s (record seat { up = without_first (is_with k) seat.up })
+abbrev pub without_up : ℕ → Option SessionState → ℕ → SessionStates → SessionStates
+without_up k None s sessions = sessions
+without_up k (Some state) s sessions = insert sessions s (record state { up = without_first (is_with k) state.up })
 
-abbrev pub seats_without : ℕ → Peer → Seats → Seats
-seats_without k (Client s) seats = without_up k (get seats s.0) s.0 seats
-seats_without k (Server j) seats = seats
+abbrev pub sessions_without : ℕ → Peer → SessionStates → SessionStates
+sessions_without k (Client s) sessions = without_up k (get sessions s.0) s.0 sessions
+sessions_without k (Server j) sessions = sessions
 
 abbrev pub flying_without : ℕ → Peer → List InFlight → List InFlight
 flying_without k (Client s) in_flight = in_flight
 flying_without k (Server j) in_flight = without_first (is_between j k) in_flight
 
 -- as many of the actor's messages, from the front, are on their way no more as there are of these
-abbrev pub seats_without_each : {Y : Type 0} → ℕ → Peer → List Y → Seats → Seats
-seats_without_each k from [] seats = seats
-seats_without_each k from (y ∷ ys) seats = seats_without_each k from ys (seats_without k from seats)
+abbrev pub sessions_without_each : {Y : Type 0} → ℕ → Peer → List Y → SessionStates → SessionStates
+sessions_without_each k from [] sessions = sessions
+sessions_without_each k from (y ∷ ys) sessions = sessions_without_each k from ys (sessions_without k from sessions)
 
 abbrev pub flying_without_each : {Y : Type 0} → ℕ → Peer → List Y → List InFlight → List InFlight
 flying_without_each k from [] in_flight = in_flight
 flying_without_each k from (y ∷ ys) in_flight = flying_without_each k from ys (flying_without k from in_flight)
 
 abbrev pub without_joined : {Y : Type 0} → ℕ → Peer → List Y → ServerStepped → ServerStepped
-without_joined k from ys x = record x { seats = seats_without_each k from ys x.seats; in_flight = flying_without_each k from ys x.in_flight }
+without_joined k from ys x =
+    record x { sessions = sessions_without_each k from ys x.sessions; in_flight = flying_without_each k from ys x.in_flight }
 
 -- what an event of several messages leaves: all that the server sends is on its way, and all that it admits joins the journal
 abbrev pub server_ran : ℕ → ServerRun → ServerStepped → ServerStepped
 server_ran k y x = record {
   server = y.server;
   post = y.post;
-  seats = with_downs k y.send x.seats;
+  sessions = with_downs k y.send x.sessions;
   in_flight = x.in_flight ++ in_flight_from k y.send;
   journal = x.journal ++ y.admitted;
   packets = with_sent y.packets x.packets;
@@ -258,18 +259,18 @@ server_ran k y x = record {
 }
 
 -- a packet of the actor comes to it: whatever this joins was on its way from there, and is so no more
-abbrev pub server_told : ℕ → ℕ → Peer → Packet → ServerStepped → ServerStepped
-server_told now k from p x =
+abbrev pub server_receive_packet : ℕ → ℕ → Peer → Packet → ServerStepped → ServerStepped
+server_receive_packet now k from p x =
     server_ran k (server_told_all now from p (core_of x)) (without_joined k from (post_accepted x.post from p).heard.joined x)
 
 -- ## Where servers stand in the world
 
 -- what an event of a server finds
-abbrev pub server_found : Core → Links → Seats → List InFlight → List Item → Packets → ServerStepped
-server_found s post seats in_flight journal packets = record {
+abbrev pub server_found : Core → Links → SessionStates → List InFlight → List Item → Packets → ServerStepped
+server_found s post sessions in_flight journal packets = record {
   server = s;
   post = post;
-  seats = seats;
+  sessions = sessions;
   in_flight = in_flight;
   journal = journal;
   packets = packets;
@@ -278,14 +279,14 @@ server_found s post seats in_flight journal packets = record {
 }
 
 abbrev pub at_server : Core → Links → Served → ServerStepped
-at_server s post w = server_found s post w.seats w.in_flight w.journal w.packets
+at_server s post w = server_found s post w.sessions w.in_flight w.journal w.packets
 
 abbrev pub with_server : ℕ → ServerStepped → Served → Stepped
 with_server k x w = record {
   world = record w {
     servers = slice_set w.servers k x.server;
     posts = slice_set w.posts k x.post;
-    seats = x.seats;
+    sessions = x.sessions;
     in_flight = x.in_flight;
     journal = x.journal;
     packets = x.packets;
@@ -302,16 +303,16 @@ server_step_at s post k turn now e w = nothing w
 abbrev pub server_step : ℕ → Bool → ℕ → ServerEvent → Served → Stepped
 server_step k turn now e w = server_step_at (slice_get w.servers k) (slice_get w.posts k) k turn now e w
 
-abbrev pub server_told_at : Option Core → Option Links → ℕ → ℕ → Peer → Packet → Served → Stepped
-server_told_at (Some s) (Some post) now k from p w = with_server k (server_told now k from p (at_server s post w)) w
-server_told_at s post now k from p w = nothing w
+abbrev pub server_receive_packet_at : Option Core → Option Links → ℕ → ℕ → Peer → Packet → Served → Stepped
+server_receive_packet_at (Some s) (Some post) now k from p w = with_server k (server_receive_packet now k from p (at_server s post w)) w
+server_receive_packet_at s post now k from p w = nothing w
 
 -- ## A packet is told
 
 -- from one actor to another: no client sends to another
 abbrev pub comes : ℕ → Peer → Peer → Packet → Served → Stepped
-comes now from (Server k) p w = server_told_at (slice_get w.servers k) (slice_get w.posts k) now k from p w
-comes now (Server k) (Client s) p w = told_at (get w.seats s.0) now s k p w
+comes now from (Server k) p w = server_receive_packet_at (slice_get w.servers k) (slice_get w.posts k) now k from p w
+comes now (Server k) (Client s) p w = client_receive_packet_at (get w.sessions s.0) now s k p w
 comes now (Client t) (Client s) p w = nothing w
 
 abbrev pub arrives : ℕ → Peer → Peer → Option Packet → Served → Stepped
@@ -320,7 +321,7 @@ arrives now from to (Some p) w = comes now from to p w
 
 -- the packet counts as told at the end
 abbrev pub marked : ℕ → Stepped → Stepped
-marked k x = record x { world = record x.world { packets = with_told k x.world.packets } }
+marked k x = record x { world = record x.world { packets = with_delivered k x.world.packets } }
 
 -- the packet of that number, if it was sent
 abbrev pub tell_at : Option Sent → ℕ → ℕ → Served → Stepped
@@ -333,11 +334,11 @@ tell now k w = tell_at (slice_get w.packets.sent k) now k w
 -- ## One event
 
 abbrev pub step_of : Served → ℕ → What → Stepped
-step_of w now (Join s) = join_at (get w.seats s.0) s w
-step_of w now (Do s o) = do_at (get w.seats s.0) now s o w
-step_of w now (Tell None) = tell now (first_untold w.packets.told) w
+step_of w now (Join s) = join_at (get w.sessions s.0) s w
+step_of w now (Do s o) = do_at (get w.sessions s.0) now s o w
+step_of w now (Tell None) = tell now (first_undelivered w.packets.delivered) w
 step_of w now (Tell (Some k)) = tell now k w
-step_of w now (Turn (Client s)) = turn_at (get w.seats s.0) now s w
+step_of w now (Turn (Client s)) = turn_at (get w.sessions s.0) now s w
 step_of w now (Turn (Server k)) = server_step k true now TheTurn w
 step_of w now (Recall k field) = server_step k false now (TheRecall field) w
 step_of w now (Move k prefix to) = server_step k false now (TheMove prefix to) w

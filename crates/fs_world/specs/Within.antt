@@ -16,8 +16,8 @@ use Rattle.fs_world.specs.Served.{step_of}
 use Rattle.fs_world.specs.World.{FitsServed, step}
 use Rattle.fs_world.specs.declared.form.Form.{Form}
 use Rattle.fs_world.specs.declared.form.Form.TheVariants as form
-use Rattle.fs_world.specs.declared.seat.Seat.{Seat}
-use Rattle.fs_world.specs.declared.served.Served.{Served}
+use Rattle.fs_world.specs.declared.servers.session_state.SessionState.{SessionState}
+use Rattle.fs_world.specs.declared.servers.world.Served.{Served}
 
 -- the message has fewer than 2^64 bytes, and all its numbers are in range
 pub record IsInRange (m : Msg) : Type 0 where
@@ -26,8 +26,10 @@ pub record IsInRange (m : Msg) : Type 0 where
 
 -- so has each that is on its way
 pub record AllInRange (w : Served) : Type 0 where
-  pub up : (s : Session) (seat : Seat) (m : ℕ × ClientMsg) → get w.seats s.0 ≡ Some seat → In m seat.up → IsInRange (msg.Client m.1)
-  pub down : (s : Session) (seat : Seat) (m : ℕ × Answer) → get w.seats s.0 ≡ Some seat → In m seat.down → IsInRange (msg.Answer m.1)
+  pub up : (s : Session) (state : SessionState) (m : ℕ × ClientMsg) → get w.sessions s.0 ≡ Some state → In m state.up
+      → IsInRange (msg.Client m.1)
+  pub down : (s : Session) (state : SessionState) (m : ℕ × Answer) → get w.sessions s.0 ≡ Some state → In m state.down
+      → IsInRange (msg.Answer m.1)
   pub in_flight : (f : InFlight) → In f w.in_flight → IsInRange (msg.Peer f.message)
 
 -- the event may happen to the world, raises no counter above its end, and leaves none but such messages on their way

@@ -1,6 +1,6 @@
 //! The forms of a world.
-use crate::direct::Direct;
-use crate::served::Served;
+use crate::direct::world::Direct;
+use crate::servers::world::Served;
 use fs_ident::{Memory, Twin};
 use std::alloc::Global;
 

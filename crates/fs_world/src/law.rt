@@ -3,7 +3,7 @@ ghost use Rattle.std.specs.Prelude.{◌≡◌, ◌<◌, ◌^◌, length, [], Non
 ghost use Rattle.fs_schedule.specs.declared.event.Head.TheVariants as head;
 ghost use Rattle.fs_schedule.specs.declared.event.Schedule.{Schedule};
 ghost use Rattle.fs_world.specs.Carried.{AllCarry};
-ghost use Rattle.fs_world.specs.Order.{AllAdmitted, told_of};
+ghost use Rattle.fs_world.specs.Order.{AllAdmitted, replies_given};
 ghost use Rattle.fs_world.specs.Over.{AllCaused, said_from};
 ghost use Rattle.fs_world.specs.Parts.{AllPartsHold, IsOrderlyWorld};
 ghost use Rattle.fs_world.specs.Refusals.{AllFair, NoneHas, is_core_strange};
@@ -22,7 +22,7 @@ pub fn every_run_is_serial()
         IsTimely s.head s.events → AllWithin (first_world s.head) s.events →
         IsSerial s.events (run_of s) }
     ensures admitted { (s : Schedule) → s.head ≡ head.Direct → AllMayHappen s.head s.events →
-        AllAdmitted (journal_of (run_of s).world) (told_of s.events (run_of s).outcomes) }
+        AllAdmitted (journal_of (run_of s).world) (replies_given s.events (run_of s).outcomes) }
 {}
 
 /// After every event of such a run, since each ends a run of its own, all parts of the invariant of the servers and their

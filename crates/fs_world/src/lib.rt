@@ -1,29 +1,12 @@
 //! The world of one schedule.
 #![tactic(auto)]
 
-mod answers;
 mod by_session;
-mod clients;
-mod counts;
 mod direct;
-mod does;
-mod downs;
 mod form;
-mod goes;
-mod hearing;
-mod hears;
-mod in_flight;
 mod law;
-mod numbers;
-mod packets;
-mod pushes;
-mod removals;
-mod seat;
-mod seats;
-mod served;
+mod outcome;
 mod servers;
-mod telling;
-mod term;
 mod world;
 
 pub use law::{

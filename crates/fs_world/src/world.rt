@@ -5,9 +5,9 @@ ghost use Rattle.fs_msg.specs.declared.core_error.Counter.{Counter as TheCounter
 ghost use Rattle.fs_msg.specs.declared.core_error.CoreError.TheVariants as errors;
 ghost use Rattle.fs_serial.specs.Cluster.{parcels_of};
 
-use crate::direct::Direct;
+use crate::direct::world::Direct;
 use crate::form::Form;
-use crate::served::Served;
+use crate::servers::world::Served;
 use fs_ident::{List, Memory, Twin};
 use fs_model::Space;
 use fs_msg::{CoreError, Item, PeerMsg};

@@ -36,7 +36,7 @@ use Rattle.fs_serial.specs.Sight.{Counts, Sight, sight_of}
 use Rattle.fs_serial.proofs.LedOperations.LedKept.{each_led}
 use Rattle.fs_serial.proofs.Admission.Answered.{answered, leads_there, sound_there, no_reap}
 use Rattle.fs_serial.proofs.Admission.Births.{life_after, makes_there}
-use Rattle.fs_serial.proofs.Lists.Facts.{each_image, items-own, serial_push, session_itself}
+use Rattle.fs_serial.proofs.Lists.Journals.{each_image, items-own, serial_push, session_itself}
 use Rattle.fs_serial.proofs.OtherSessions.Gone.{MakeAnew, gone_later, gone_then, made_more}
 
 -- ## Leases on new files

@@ -28,7 +28,7 @@ use Rattle.fs_serial.proofs.Admission.AdmitOthers.{others_rely}
 use Rattle.fs_serial.proofs.Admission.AdmitPromises.{promises_admitted}
 use Rattle.fs_serial.proofs.Admission.Births.{makes_there, named_makes}
 use Rattle.fs_serial.proofs.Grants.Claims.{NoneAnew, Was, none_anew}
-use Rattle.fs_serial.proofs.Lists.Facts.{reaps-still}
+use Rattle.fs_serial.proofs.Lists.Journals.{reaps-still}
 use Rattle.fs_serial.proofs.OtherSessions.Gone.{MakeAnew, all_anew}
 use Rattle.fs_serial.proofs.OtherSessions.Relied.{relied_holds, relied_fits}
 use Rattle.fs_serial.proofs.Admission.Rowed.{all_found}

@@ -39,7 +39,7 @@ use Rattle.fs_serial.specs.Serial.{AreSound}
 use Rattle.fs_serial.proofs.Admission.Answered.{answered}
 use Rattle.fs_serial.proofs.Admission.Births.{life_after, names_made}
 use Rattle.fs_serial.proofs.Grants.Claims.{Was, one_still, was_there}
-use Rattle.fs_serial.proofs.Lists.Facts.{made-append, made_before, below-trans, below_itself}
+use Rattle.fs_serial.proofs.Lists.Journals.{made-append, made_before, below-trans, below_itself}
 
 -- ## Next numbers and lives
 

@@ -30,7 +30,7 @@ use Rattle.fs_serial.specs.Rows.{NoRowsConflict, PromisesKept}
 use Rattle.fs_serial.specs.Settled.{effects_in}
 use Rattle.fs_serial.specs.Sight.{Counts, sight_of}
 use Rattle.fs_serial.proofs.Admission.Answered.{answered, covered_there}
-use Rattle.fs_serial.proofs.Lists.Facts.{items-other}
+use Rattle.fs_serial.proofs.Lists.Journals.{items-other}
 use Rattle.fs_serial.proofs.OtherSessions.Gone.{gone_then, made_more}
 use Rattle.fs_serial.proofs.Grants.Promises.{other_stays}
 

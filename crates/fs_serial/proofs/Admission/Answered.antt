@@ -31,7 +31,7 @@ use Rattle.fs_view.specs.Walk.{walk, known_in, always}
 use Rattle.fs_view.proofs.Replies.{reply_along, replies}
 use Rattle.fs_serial.specs.Pending.{IsAnswer, IsCovered, IsEntry, NamesItsFile}
 use Rattle.fs_serial.specs.Serial.{AreSound}
-use Rattle.fs_serial.proofs.Lists.Facts.{known_nodes, nodes_all}
+use Rattle.fs_serial.proofs.Lists.Journals.{known_nodes, nodes_all}
 
 -- a create that comes to Made in a space names a file that does not live there
 new_absent : (m : NodeMap) (id : List ℕ) (o : Option Node) → get m id ≡ o → made_reply (Some (kind_of o)) ≡ reply.Made → get m id ≡ None

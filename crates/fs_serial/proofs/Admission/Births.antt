@@ -21,7 +21,7 @@ use Rattle.fs_view.specs.View.{value_after_all, value_after_log}
 use Rattle.fs_serial.specs.Fresh.{made_by, or_else}
 use Rattle.fs_serial.specs.Pending.{NamesItsFile, named_by}
 use Rattle.fs_serial.specs.Settled.{effects_in}
-use Rattle.fs_serial.proofs.Lists.Facts.{same_symm}
+use Rattle.fs_serial.proofs.Lists.Journals.{same_symm}
 
 -- ## What the effects say
 

@@ -18,7 +18,7 @@ use Rattle.fs_serial.specs.Settled.{Settled, with_over}
 use Rattle.fs_serial.specs.Sight.{Sight}
 use Rattle.fs_serial.specs.World.{Ends, GoesOn}
 use Rattle.fs_serial.proofs.LedOperations.LedKept.{each_led}
-use Rattle.fs_serial.proofs.OneServer.Going.{carried_alike}
+use Rattle.fs_serial.proofs.OneServer.LeaseChanges.{carried_alike}
 use Rattle.fs_serial.proofs.Grants.OneLease.{lease_is}
 use Rattle.fs_serial.proofs.Grants.Claims.{NoneAnew, none_anew}
 use Rattle.fs_serial.proofs.OtherSessions.Together.{each_session, fewer_reserved}

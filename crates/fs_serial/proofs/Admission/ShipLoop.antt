@@ -28,11 +28,11 @@ use Rattle.fs_serial.specs.Steps.{IsAdmitted}
 use Rattle.fs_serial.specs.World.{Ends, GoesOn, HasNumber}
 use Rattle.fs_serial.proofs.Admission.AdmitAll as admit
 use Rattle.fs_serial.proofs.DecidedEffects.AdmitPast.{entry_apart}
-use Rattle.fs_serial.proofs.OtherSessions.Again.{goes_again}
+use Rattle.fs_serial.proofs.OtherSessions.ClientChanges.{goes_again}
 use Rattle.fs_serial.proofs.Admission.Answered.{covered_there}
 use Rattle.fs_serial.proofs.Places.Elsewhere.{none_refused, over_still}
-use Rattle.fs_serial.proofs.Lists.Facts.{known_nodes}
-use Rattle.fs_serial.proofs.OneServer.Going.{carried_alike}
+use Rattle.fs_serial.proofs.Lists.Journals.{known_nodes}
+use Rattle.fs_serial.proofs.OneServer.LeaseChanges.{carried_alike}
 use Rattle.fs_serial.proofs.OtherSessions.Gone.{made_more}
 use Rattle.fs_serial.proofs.DecidedEffects.GrantsPast.{gone_there}
 use Rattle.fs_serial.proofs.Admission.Refusing.{entry_refused}

@@ -36,16 +36,16 @@ use Rattle.fs_serial.specs.Steps.{IsReplied}
 use Rattle.fs_serial.specs.World.{is_called, message_in, pushed, told_by}
 use Rattle.fs_serial.proofs.Replies.Answering.{AnswerEnds, answer_ends, as_entry, as_led, as_move, as_read, not_told, put_off}
 use Rattle.fs_serial.proofs.OneServer.ClientSteps.{IsMoved, with_journal}
-use Rattle.fs_serial.proofs.Lists.Facts.{items-other, reaps-still}
-use Rattle.fs_serial.proofs.LedOperations.LeadSeat.{leads_reserves, seat_leads}
+use Rattle.fs_serial.proofs.Lists.Journals.{items-other, reaps-still}
+use Rattle.fs_serial.proofs.LedOperations.LeadSession.{leads_reserves, session_leads}
 use Rattle.fs_serial.proofs.Replies.MoveReads.{move_read}
 use Rattle.fs_serial.proofs.Replies.PlainAsks.{asks_given, some_given}
-use Rattle.fs_serial.proofs.Replies.Read.{IsReadOf, item_read, read_made, read_reserved, read_right, read_serial, seat_read, settled_number}
-use Rattle.fs_serial.proofs.Replies.ReplySeat.{reply_reserves, seat_reply}
+use Rattle.fs_serial.proofs.Replies.Read.{IsReadOf, item_read, read_made, read_reserved, read_right, read_serial, session_read, settled_number}
+use Rattle.fs_serial.proofs.Replies.ReplySession.{reply_reserves, session_reply}
 use Rattle.fs_serial.proofs.Grants.Claims.{AreUnborn, NoneAnew, none_anew}
 use Rattle.fs_serial.proofs.OtherSessions.Gone.{MakeAnew}
-use Rattle.fs_serial.proofs.ClientMessages.Seats.{Seat, few, seen_at}
-use Rattle.fs_serial.proofs.ClientMessages.Sends.{AreOfGivenKinds, seat_asks}
+use Rattle.fs_serial.proofs.ClientMessages.SessionStates.{SessionStateHolds, few, seen_at}
+use Rattle.fs_serial.proofs.ClientMessages.Sends.{AreOfGivenKinds, session_asks}
 
 -- what an item more does to the servers' parts
 pub record ServersMoved (s t : Sight) : Type 0 where
@@ -77,7 +77,7 @@ pub same_items : {N : Type 0} (p : Plan N) → with_items (λ i. i) p ≡ p
 same_items {N} p = ap (λ (o : Option Item). let q : Plan N = record { ready = p.ready; out = record { note = p.out.note; send = p.out.send; admitted = o } } in q) (same_item p.out.admitted)
 
 -- what the client makes of the operation, where nothing is led; in place of a read this item may join the journal
-module _ (skew greatest : ℕ) (s : Sight) (by : Session) (replied : List Item) (c : Client) (up : List ClientMsg) (down : List Answer) (o : Op) (called : is_called o ≡ true) (h : Seat skew greatest s by replied c up down) where
+module _ (skew greatest : ℕ) (s : Sight) (by : Session) (replied : List Item) (c : Client) (up : List ClientMsg) (down : List Answer) (o : Op) (called : is_called o ≡ true) (h : SessionStateHolds skew greatest s by replied c up down) where
   -- it reads at once
   abbrev pub ReadsAt : Reply → Type 0
   ReadsAt r = (c.led ≡ None) × (reply_in c.view c.last o ≡ Some r) × (c.log ≡ []) × ((is_change r ≡ false × tells_its_effects o ≡ true) ⊎ (is_led o r ≡ false × tells_its_effects o ≡ false))
@@ -96,12 +96,12 @@ module _ (skew greatest : ℕ) (s : Sight) (by : Session) (replied : List Item) 
     | inr p ↦ move_read skew greatest s by replied c up down h a.0 o r sound p.1 called p.0 a.1 a.2 within
   ]
 
-module _ (skew greatest : ℕ) (s : Sight) (by : Session) (replied : List Item) (c : Client) (up : List ClientMsg) (down : List Answer) (o : Op) (called : is_called o ≡ true) (h : Seat skew greatest s by replied c up down) (anew : MakeAnew by s.journal (seen_at by c down).log) (unborn : AreUnborn s.records (seen_at by c down)) (put : Item → Item) (fine : (r : Reply) → ReadsAt skew greatest s by replied c up down o called h r → IsReadOf (nodes_of s.records) by c.next (put (item_read c o r))) where
+module _ (skew greatest : ℕ) (s : Sight) (by : Session) (replied : List Item) (c : Client) (up : List ClientMsg) (down : List Answer) (o : Op) (called : is_called o ≡ true) (h : SessionStateHolds skew greatest s by replied c up down) (anew : MakeAnew by s.journal (seen_at by c down).log) (unborn : AreUnborn s.records (seen_at by c down)) (put : Item → Item) (fine : (r : Reply) → ReadsAt skew greatest s by replied c up down o called h r → IsReadOf (nodes_of s.records) by c.next (put (item_read c o r))) where
   abbrev IsDone : Plan Act → Type 0
   IsDone p = IsPlanned skew greatest s by replied c up down down (with_items put p)
 
   stayed : (a : Act) → IsDone (stays a c)
-  stayed a = record { now = refl; moved = record { seat = h; reserves = none_anew (seen_at by c down) }; servers = servers_stay s; others = λ x q. refl }
+  stayed a = record { now = refl; moved = record { state = h; reserves = none_anew (seen_at by c down) }; servers = servers_stay s; others = λ x q. refl }
 
   -- ## Something is missing
 
@@ -114,7 +114,7 @@ module _ (skew greatest : ℕ) (s : Sight) (by : Session) (replied : List Item) 
   asking to needs is idle = record {
     now = refl;
     moved = record {
-      seat = seat_asks skew greatest s by replied c up down to (items_of (needs_at c to needs)) (fresh_asked (needs_at c to needs)) idle
+      state = session_asks skew greatest s by replied c up down to (items_of (needs_at c to needs)) (fresh_asked (needs_at c to needs)) idle
           (some_given (λ n. hinted c (need_file n) == to) needs (subst (λ ns. AreOfGivenKinds (items_of ns)) (sym is) (asks_given (known_by c.view c.last) (given_by c.view c.last) c.full o called))) h;
       reserves = none_anew (seen_at by c down);
     };
@@ -139,7 +139,7 @@ module _ (skew greatest : ℕ) (s : Sight) (by : Session) (replied : List Item) 
         record {
           now = refl;
           moved = record {
-            seat = seat_reply skew greatest s by replied c up down o r h anew unborn a;
+            state = session_reply skew greatest s by replied c up down o r h anew unborn a;
             reserves = reply_reserves skew greatest s by replied c up down o r h anew unborn a;
           };
           servers = servers_stay s;
@@ -153,7 +153,7 @@ module _ (skew greatest : ℕ) (s : Sight) (by : Session) (replied : List Item) 
         record {
           now = refl;
           moved = record {
-            seat = seat_read skew greatest s by replied c up down h unled a.2 i is;
+            state = session_read skew greatest s by replied c up down h unled a.2 i is;
             reserves = subst (NoneAnew (seen_at by c down)) (sym (settled_number by (c.next + 1) down (settled_now c) unled)) (none_anew (seen_at by c down));
           };
           servers = record {
@@ -168,7 +168,7 @@ module _ (skew greatest : ℕ) (s : Sight) (by : Session) (replied : List Item) 
     leading r l idle empty e moved k to = record {
       now = refl;
       moved = record {
-        seat = seat_leads skew greatest s by replied c up down o r h l idle empty unled e moved k to;
+        state = session_leads skew greatest s by replied c up down o r h l idle empty unled e moved k to;
         reserves = leads_reserves skew greatest s by replied c up down o r h l idle empty unled e moved k to;
       };
       servers = servers_stay s;

@@ -44,11 +44,12 @@ use Rattle.fs_serial.proofs.ClientMessages.Heard.{IsHeard, heard, quiet_exchange
 use Rattle.fs_serial.proofs.Replies.Knowing.{from-filter_map}
 use Rattle.fs_serial.proofs.Returns.Lapse.{its_number}
 use Rattle.fs_serial.specs.Exchange.{ExchangeFits, ReturnFits, ReturnsFit, server_of_question}
-use Rattle.fs_serial.proofs.ClientMessages.Seats.{Seat, seen_at, settled_none}
+use Rattle.fs_serial.proofs.ClientMessages.SessionStates.{SessionStateHolds, seen_at, settled_none}
 
 -- ## Numbers that come are new
 
-new_is : (leases : List ViewLease) (before : List Grant) (g : Grant) → is_new leases before g ≡ true → list_any (has_number g.no) leases ≡ false
+new_is : (leases : List ViewLease) (before : List Grant) (g : Grant) → is_new leases before g ≡ true
+    → list_any (has_number g.no) leases ≡ false
 new_is leases before g h = not-true (list_any (has_number g.no) leases) (both (not (list_any (has_number g.no) leases)) _ h).0
 
 front_new : (items : List (Field × LeaseKind)) (leases : List ViewLease) (before gs : List Grant) → front_fits items leases before gs ≡ true → (g : Grant) → In g gs → list_any (has_number g.no) leases ≡ false
@@ -183,9 +184,9 @@ module _ (by : Session) (c : Client) (gs : List Grant) (fresh : Option (List ℕ
   }
 
 -- all that holds of its session
-pub seat_granted : (skew greatest : ℕ) (s : Sight) (by : Session) (replied : List Item) (c : Client) (up : List ClientMsg) (gs : List Grant) (fresh : Option (List ℕ)) (e : End) (rest : List Answer) → Seat skew greatest s by replied c up (Granted gs fresh e ∷ rest)
-    → Seat skew greatest s by replied (with_granted (leases_in fresh gs) (full_told e) c) up rest
-seat_granted skew greatest s by replied c up gs fresh e rest h =
+pub session_granted : (skew greatest : ℕ) (s : Sight) (by : Session) (replied : List Item) (c : Client) (up : List ClientMsg) (gs : List Grant) (fresh : Option (List ℕ)) (e : End) (rest : List Answer) → SessionStateHolds skew greatest s by replied c up (Granted gs fresh e ∷ rest)
+    → SessionStateHolds skew greatest s by replied (with_granted (leases_in fresh gs) (full_told e) c) up rest
+session_granted skew greatest s by replied c up gs fresh e rest h =
     let w : IsHeard c up (Granted gs fresh e) rest = heard c c.exchange up (Granted gs fresh e) rest refl refl h.exchange.one in
     let new = all_new c (server_of_question w.exchange) w.exchange gs fresh e w.fits in
     let now = granted_now by c gs fresh e h.client new in
@@ -203,7 +204,7 @@ seat_granted skew greatest s by replied c up gs fresh e rest h =
     }
 
 -- it was going to have them
-pub granted_seen : (skew greatest : ℕ) (s : Sight) (by : Session) (replied : List Item) (c : Client) (up : List ClientMsg) (gs : List Grant) (fresh : Option (List ℕ)) (e : End) (rest : List Answer) → Seat skew greatest s by replied c up (Granted gs fresh e ∷ rest)
+pub granted_seen : (skew greatest : ℕ) (s : Sight) (by : Session) (replied : List Item) (c : Client) (up : List ClientMsg) (gs : List Grant) (fresh : Option (List ℕ)) (e : End) (rest : List Answer) → SessionStateHolds skew greatest s by replied c up (Granted gs fresh e ∷ rest)
     → seen_at by (with_granted (leases_in fresh gs) (full_told e) c) rest ≡ seen_at by c (Granted gs fresh e ∷ rest)
 granted_seen skew greatest s by replied c up gs fresh e rest h =
     let w : IsHeard c up (Granted gs fresh e) rest = heard c c.exchange up (Granted gs fresh e) rest refl refl h.exchange.one in

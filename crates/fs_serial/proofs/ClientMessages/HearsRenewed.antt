@@ -41,7 +41,7 @@ use Rattle.fs_serial.specs.Fresh.{HoldsFresh}
 use Rattle.fs_serial.specs.World.{HasNumber}
 use Rattle.fs_serial.proofs.Grants.Claims.{NoneAnew, none_anew_held}
 use Rattle.fs_serial.proofs.ClientMessages.Carried.{FewerLeases}
-use Rattle.fs_serial.proofs.Lists.Facts.{each_image}
+use Rattle.fs_serial.proofs.Lists.Journals.{each_image}
 use Rattle.fs_serial.proofs.OtherSessions.Fewer.{HasFewer, fewer_holds, fewer_fits}
 use Rattle.fs_serial.proofs.ClientMessages.Heard.{IsHeard, heard, quiet_exchange}
 use Rattle.fs_serial.proofs.Replies.Knowing.{In-filter_map, from-filter_map}
@@ -49,7 +49,7 @@ use Rattle.fs_serial.proofs.Returns.Lapse.{IsUsed, its_number, used_in}
 use Rattle.fs_serial.proofs.Replies.ReplyPins.{distinct_mapped, one_keeps, pair_in}
 use Rattle.fs_serial.proofs.OtherSessions.Retimed.{retimed, with_until, no_same, field_same, below_same, retimed_holds, retimed_fits, held}
 use Rattle.fs_serial.proofs.Grants.RowKinds.{In-kept}
-use Rattle.fs_serial.proofs.ClientMessages.Seats.{Seat, seen_at, settled_none}
+use Rattle.fs_serial.proofs.ClientMessages.SessionStates.{SessionStateHolds, seen_at, settled_none}
 use Rattle.fs_serial.proofs.ClientMessages.HearsShipped.{lease_by}
 
 -- ## One pair of an answer
@@ -118,7 +118,8 @@ pub record IsHeldThere (ks : List ViewLease) (n : LeaseNo) : Type 0 where
   pub number : number_of kept.standing ≡ n
   pub held : is_held kept.standing ≡ true
 
-the_held : (ks : List ViewLease) (n : LeaseNo) (o : Option ViewLease) → find (has_number n) ks ≡ o → stands is_held n ks ≡ true → IsHeldThere ks n
+the_held : (ks : List ViewLease) (n : LeaseNo) (o : Option ViewLease) → find (has_number n) ks ≡ o → stands is_held n ks ≡ true
+    → IsHeldThere ks n
 the_held ks n None e t = absurd (let q : false ≡ true = ap (λ o. option_map_or (λ (k : ViewLease). is_held k.standing) o false) (sym e) ∙ t in cc)
 the_held ks n (Some k) e t =
     let q = found (has_number n) ks k e in
@@ -219,7 +220,7 @@ all_told skew greatest s by replied c (r ∷ rs) v backs h = all_told skew great
     one (Some until) e = end_told skew greatest s by replied c v r.0 h until (λ l i same. let q = h.fewer l i in backs r.0 until (inl (ap (λ o. (r.0, o)) (sym e))) (record { lease = q.lease; held = q.held; number = q.number ∙ same }))
     one None e = gone_if skew greatest s by replied c v r.0 (stands is_held r.0 v.leases) refl h
 
-renewed_view : (skew greatest : ℕ) (s : Sight) (by : Session) (replied : List Item) (c : Client) (up : List ClientMsg) (ends : List (LeaseNo × Option ℕ)) (e : End) (rest : List Answer) → Seat skew greatest s by replied c up (Renewed ends e ∷ rest) → HasView skew greatest s by replied c (with_renewed ends c).view
+renewed_view : (skew greatest : ℕ) (s : Sight) (by : Session) (replied : List Item) (c : Client) (up : List ClientMsg) (ends : List (LeaseNo × Option ℕ)) (e : End) (rest : List Answer) → SessionStateHolds skew greatest s by replied c up (Renewed ends e ∷ rest) → HasView skew greatest s by replied c (with_renewed ends c).view
 renewed_view skew greatest s by replied c up ends e rest h =
     let w : IsHeard c up (Renewed ends e) rest = heard c c.exchange up (Renewed ends e) rest refl refl h.exchange.one in
     let still : seen_at by c (Renewed ends e ∷ rest) ≡ settled_now c = settled_none by rest (settled_now c) w.quiet in
@@ -232,8 +233,8 @@ renewed_view skew greatest s by replied c up ends e rest h =
       reserves = λ n i r. r;
     })
 
-pub seat_renewed : (skew greatest : ℕ) (s : Sight) (by : Session) (replied : List Item) (c : Client) (up : List ClientMsg) (ends : List (LeaseNo × Option ℕ)) (e : End) (rest : List Answer) → Seat skew greatest s by replied c up (Renewed ends e ∷ rest) → Seat skew greatest s by replied (with_renewed ends c) up rest
-seat_renewed skew greatest s by replied c up ends e rest h =
+pub session_renewed : (skew greatest : ℕ) (s : Sight) (by : Session) (replied : List Item) (c : Client) (up : List ClientMsg) (ends : List (LeaseNo × Option ℕ)) (e : End) (rest : List Answer) → SessionStateHolds skew greatest s by replied c up (Renewed ends e ∷ rest) → SessionStateHolds skew greatest s by replied (with_renewed ends c) up rest
+session_renewed skew greatest s by replied c up ends e rest h =
     let w : IsHeard c up (Renewed ends e) rest = heard c c.exchange up (Renewed ends e) rest refl refl h.exchange.one in
     let then_ : Client = with_renewed ends c in
     let q : HasView skew greatest s by replied c then_.view = renewed_view skew greatest s by replied c up ends e rest h in
@@ -247,7 +248,7 @@ seat_renewed skew greatest s by replied c up ends e rest h =
     }
 
 -- no identifier is reserved that was not
-pub renewed_reserves : (skew greatest : ℕ) (s : Sight) (by : Session) (replied : List Item) (c : Client) (up : List ClientMsg) (ends : List (LeaseNo × Option ℕ)) (e : End) (rest : List Answer) → Seat skew greatest s by replied c up (Renewed ends e ∷ rest) → NoneAnew (seen_at by c (Renewed ends e ∷ rest)) (seen_at by (with_renewed ends c) rest)
+pub renewed_reserves : (skew greatest : ℕ) (s : Sight) (by : Session) (replied : List Item) (c : Client) (up : List ClientMsg) (ends : List (LeaseNo × Option ℕ)) (e : End) (rest : List Answer) → SessionStateHolds skew greatest s by replied c up (Renewed ends e ∷ rest) → NoneAnew (seen_at by c (Renewed ends e ∷ rest)) (seen_at by (with_renewed ends c) rest)
 renewed_reserves skew greatest s by replied c up ends e rest h =
     let w : IsHeard c up (Renewed ends e) rest = heard c c.exchange up (Renewed ends e) rest refl refl h.exchange.one in
     let q = renewed_view skew greatest s by replied c up ends e rest h in

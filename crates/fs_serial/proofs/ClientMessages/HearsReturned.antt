@@ -30,10 +30,10 @@ use Rattle.fs_serial.specs.Pending.{UsesHeld}
 use Rattle.fs_serial.specs.Settled.{Settled, lease_in, lease_with, settled, settled_now}
 use Rattle.fs_serial.specs.Sight.{Sight}
 use Rattle.fs_serial.proofs.ClientMessages.Carried.{GoesOnAs, exchange_still}
-use Rattle.fs_serial.proofs.Lists.Facts.{each_image}
+use Rattle.fs_serial.proofs.Lists.Journals.{each_image}
 use Rattle.fs_serial.proofs.ClientMessages.Heard.{IsHeard, heard, quiet_exchange, recall_exchange}
 use Rattle.fs_serial.proofs.Replies.ReplyPins.{distinct_mapped, pair_in, same_leases}
-use Rattle.fs_serial.proofs.ClientMessages.Seats.{Seat, seen_at}
+use Rattle.fs_serial.proofs.ClientMessages.SessionStates.{SessionStateHolds, seen_at}
 
 -- ## A recall
 
@@ -43,18 +43,20 @@ one_recall n k = cond (has_number n k) (record k { recalled = recalled_as k.stan
 recall_standing : (n : LeaseNo) (k : ViewLease) → (one_recall n k).standing ≡ k.standing
 recall_standing n k = within (has_number n k)
   where
-    within : (b : Bool) → (cond b (let x : ViewLease = record k { recalled = recalled_as k.standing k.recalled } in x) k).standing ≡ k.standing
+    within : (b : Bool)
+        → (cond b (let x : ViewLease = record k { recalled = recalled_as k.standing k.recalled } in x) k).standing ≡ k.standing
     within true = refl
     within false = refl
 
 recall_lease : (n : LeaseNo) (k : ViewLease) → lease_in (one_recall n k) ≡ lease_in k
 recall_lease n k = within (has_number n k)
   where
-    within : (b : Bool) → lease_in (cond b (let x : ViewLease = record k { recalled = recalled_as k.standing k.recalled } in x) k) ≡ lease_in k
+    within : (b : Bool)
+        → lease_in (cond b (let x : ViewLease = record k { recalled = recalled_as k.standing k.recalled } in x) k) ≡ lease_in k
     within true = refl
     within false = refl
 
-module _ (skew greatest : ℕ) (s : Sight) (by : Session) (replied : List Item) (c : Client) (up : List ClientMsg) (n : LeaseNo) (rest : List Answer) (h : Seat skew greatest s by replied c up (Recall n ∷ rest)) where
+module _ (skew greatest : ℕ) (s : Sight) (by : Session) (replied : List Item) (c : Client) (up : List ClientMsg) (n : LeaseNo) (rest : List Answer) (h : SessionStateHolds skew greatest s by replied c up (Recall n ∷ rest)) where
   abbrev recalled : Client
   recalled = with_recalled n c
 
@@ -82,8 +84,8 @@ module _ (skew greatest : ℕ) (s : Sight) (by : Session) (replied : List Item) 
     goes = λ k i t. record { kept = one_recall n k; among = In-mapped (one_recall n) k c.view.leases i; number = number k; leaving = ap is_leaving (recall_standing n k) ∙ t };
   }
 
-  pub seat_recalled : Seat skew greatest s by replied recalled up rest
-  seat_recalled = record {
+  pub session_recalled : SessionStateHolds skew greatest s by replied recalled up rest
+  session_recalled = record {
     holds = subst (SessionHolds skew greatest s by replied) (sym recalled_seen) h.holds;
     fits = subst (SessionFits skew greatest s by) (sym recalled_seen) h.fits;
     client = record {
@@ -139,7 +141,8 @@ all_returned (n ∷ ns) v h =
     let q : HasReturned w (released_all ns w) = all_returned ns w (λ m i k j. h m (inr i) k (p.was k j)) in
     record { session = q.session ∙ p.session; pending = q.pending ∙ p.pending; was = λ k i. p.was k (q.was k i); same = q.same ∙ p.same }
 
-sent_returned : (x : Option Exchange) (ks : List ViewLease) → ReleasesReturned x ks → (n : LeaseNo) → In n (numbers_sent x) → IsReturned ks n
+sent_returned : (x : Option Exchange) (ks : List ViewLease) → ReleasesReturned x ks → (n : LeaseNo) → In n (numbers_sent x)
+    → IsReturned ks n
 sent_returned None ks h n i = absurd i
 sent_returned (Some (Asks to items fresh)) ks h n i = absurd i
 sent_returned (Some (Renews to numbers)) ks h n i = absurd i
@@ -153,8 +156,8 @@ in_front (suc k) x [] i = i
 in_front (suc k) x (y ∷ ys) (inl e) = inl e
 in_front (suc k) x (y ∷ ys) (inr i) = inr (in_front k x ys i)
 
-pub seat_released : (skew greatest : ℕ) (s : Sight) (by : Session) (replied : List Item) (c : Client) (up : List ClientMsg) (count : ℕ) (e : End) (rest : List Answer) → Seat skew greatest s by replied c up (Released count e ∷ rest) → Seat skew greatest s by replied (with_released (take count (numbers_sent c.exchange)) c) up rest
-seat_released skew greatest s by replied c up count e rest h =
+pub session_released : (skew greatest : ℕ) (s : Sight) (by : Session) (replied : List Item) (c : Client) (up : List ClientMsg) (count : ℕ) (e : End) (rest : List Answer) → SessionStateHolds skew greatest s by replied c up (Released count e ∷ rest) → SessionStateHolds skew greatest s by replied (with_released (take count (numbers_sent c.exchange)) c) up rest
+session_released skew greatest s by replied c up count e rest h =
     let w : IsHeard c up (Released count e) rest = heard c c.exchange up (Released count e) rest refl refl h.exchange.one in
     let ns : List LeaseNo = take count (numbers_sent c.exchange) in
     let then_ : Client = with_released ns c in
@@ -180,7 +183,7 @@ seat_released skew greatest s by replied c up count e rest h =
     }
 
 -- what came back was going already
-pub released_seen : (skew greatest : ℕ) (s : Sight) (by : Session) (replied : List Item) (c : Client) (up : List ClientMsg) (count : ℕ) (e : End) (rest : List Answer) → Seat skew greatest s by replied c up (Released count e ∷ rest) → seen_at by (with_released (take count (numbers_sent c.exchange)) c) rest ≡ seen_at by c (Released count e ∷ rest)
+pub released_seen : (skew greatest : ℕ) (s : Sight) (by : Session) (replied : List Item) (c : Client) (up : List ClientMsg) (count : ℕ) (e : End) (rest : List Answer) → SessionStateHolds skew greatest s by replied c up (Released count e ∷ rest) → seen_at by (with_released (take count (numbers_sent c.exchange)) c) rest ≡ seen_at by c (Released count e ∷ rest)
 released_seen skew greatest s by replied c up count e rest h =
     let ns : List LeaseNo = take count (numbers_sent c.exchange) in
     let going : AllGoing ns c.view.leases = λ n i k j same.

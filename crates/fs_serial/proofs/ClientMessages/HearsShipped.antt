@@ -37,10 +37,10 @@ use Rattle.fs_serial.specs.Pending.{HasLease}
 use Rattle.fs_serial.specs.Settled.{Lease, Settled, lease_in, lease_after, effects_in, acknowledged, acknowledged_all, with_over, told, settled, settled_now}
 use Rattle.fs_serial.specs.Sight.{Sight}
 use Rattle.fs_serial.proofs.LedOperations.LedKept.{tail_before, times_led}
-use Rattle.fs_serial.proofs.Lists.Facts.{each_image}
+use Rattle.fs_serial.proofs.Lists.Journals.{each_image}
 use Rattle.fs_serial.proofs.ClientMessages.Heard.{IsHeard, heard, quiet_exchange}
 use Rattle.fs_serial.proofs.Replies.ReplyPins.{distinct_mapped, one_keeps, pair_in, same_leases}
-use Rattle.fs_serial.proofs.ClientMessages.Seats.{Seat, seen_at}
+use Rattle.fs_serial.proofs.ClientMessages.SessionStates.{SessionStateHolds, seen_at}
 
 -- ## One use less
 
@@ -218,8 +218,8 @@ all_admitted by (suc k) c f =
     }
 
 -- all that holds of its session
-pub seat_shipped : (skew greatest : ℕ) (s : Sight) (by : Session) (replied : List Item) (c : Client) (up : List ClientMsg) (count : ℕ) (e : End) (rest : List Answer) → Seat skew greatest s by replied c up (Shipped count e ∷ rest) → Seat skew greatest s by replied (with_shipped count (over_after e c.over) c) up rest
-seat_shipped skew greatest s by replied c up count e rest h =
+pub session_shipped : (skew greatest : ℕ) (s : Sight) (by : Session) (replied : List Item) (c : Client) (up : List ClientMsg) (count : ℕ) (e : End) (rest : List Answer) → SessionStateHolds skew greatest s by replied c up (Shipped count e ∷ rest) → SessionStateHolds skew greatest s by replied (with_shipped count (over_after e c.over) c) up rest
+session_shipped skew greatest s by replied c up count e rest h =
     let w : IsHeard c up (Shipped count e) rest = heard c c.exchange up (Shipped count e) rest refl refl h.exchange.one in
     let then_ : Client = with_shipped count (over_after e c.over) c in
     let q : HasAdmitted by c (admitted_all count c) (acknowledged_all by count (settled_now c)) = all_admitted by count c h.client in
@@ -236,5 +236,5 @@ seat_shipped skew greatest s by replied c up count e rest h =
     }
 
 -- it was going to know so
-pub shipped_seen : (skew greatest : ℕ) (s : Sight) (by : Session) (replied : List Item) (c : Client) (up : List ClientMsg) (count : ℕ) (e : End) (rest : List Answer) → Seat skew greatest s by replied c up (Shipped count e ∷ rest) → seen_at by (with_shipped count (over_after e c.over) c) rest ≡ seen_at by c (Shipped count e ∷ rest)
+pub shipped_seen : (skew greatest : ℕ) (s : Sight) (by : Session) (replied : List Item) (c : Client) (up : List ClientMsg) (count : ℕ) (e : End) (rest : List Answer) → SessionStateHolds skew greatest s by replied c up (Shipped count e ∷ rest) → seen_at by (with_shipped count (over_after e c.over) c) rest ≡ seen_at by c (Shipped count e ∷ rest)
 shipped_seen skew greatest s by replied c up count e rest h = ap (settled by rest) (ap (with_over (over_after e c.over)) (all_admitted by count c h.client).settled)

@@ -17,7 +17,7 @@ use Rattle.fs_serial.specs.Exchange.{OneExchange, ReturnsFit, ShipsFront, due, i
 use Rattle.fs_serial.specs.Parts.{AllHold}
 use Rattle.fs_serial.specs.Settled.{Settled, settled, settled_now}
 use Rattle.fs_serial.specs.World.{Ends, World, WorldHolds, settled_at, sight_in, with_ends}
-use Rattle.fs_serial.proofs.ClientMessages.Seats.{settled_due}
+use Rattle.fs_serial.proofs.ClientMessages.SessionStates.{settled_due}
 use Rattle.fs_serial.proofs.ClientMessages.Sending.{EndsFit, each_end}
 
 -- ## What is due

@@ -37,7 +37,7 @@ use Rattle.fs_serial.specs.Settled.{Lease, Settled, lease_in, lease_with, settle
 use Rattle.fs_serial.specs.Sight.{Sight}
 use Rattle.fs_serial.proofs.Returns.KeptPairs.{kept_pair, no_pairs, renews_pairs}
 use Rattle.fs_serial.proofs.Replies.ReplyPins.{distinct_mapped, one_keeps, pair_in}
-use Rattle.fs_serial.proofs.ClientMessages.Seats.{Seat, seen_at, idle_due, settled_none}
+use Rattle.fs_serial.proofs.ClientMessages.SessionStates.{SessionStateHolds, seen_at, idle_due, settled_none}
 
 -- ## One question
 
@@ -73,8 +73,8 @@ led_nothing m led other n (inl e) = absurd (other n e)
 led_nothing m led other n (inr z) = absurd z
 
 -- a question that leaves the client's leases
-pub seat_asking : (skew greatest : ℕ) (s : Sight) (by : Session) (replied : List Item) (c : Client) (up : List ClientMsg) (down : List Answer) (x : Exchange) (m : ClientMsg) → c.exchange ≡ None → IsAsking s.given s.rows c x m c.view.leases (settled_now c) → Seat skew greatest s by replied c up down → Seat skew greatest s by replied (with_exchange x c) (up ++ m ∷ []) down
-seat_asking skew greatest s by replied c up down x m idle a h =
+pub session_asking : (skew greatest : ℕ) (s : Sight) (by : Session) (replied : List Item) (c : Client) (up : List ClientMsg) (down : List Answer) (x : Exchange) (m : ClientMsg) → c.exchange ≡ None → IsAsking s.given s.rows c x m c.view.leases (settled_now c) → SessionStateHolds skew greatest s by replied c up down → SessionStateHolds skew greatest s by replied (with_exchange x c) (up ++ m ∷ []) down
+session_asking skew greatest s by replied c up down x m idle a h =
     let q = idle_due c c.exchange up down idle h.exchange.one in
     let now : settled_now c ≡ seen_at by c down = sym (settled_none by down (settled_now c) q.1) in
     record {
@@ -90,9 +90,9 @@ seat_asking skew greatest s by replied c up down x m idle a h =
 abbrev pub AreOfGivenKinds : List (Field × LeaseKind) → Type 0
 AreOfGivenKinds items = (x : Field × LeaseKind) → In x items → kind_for x.0 x.1 ≡ x.1
 
-pub seat_asks : (skew greatest : ℕ) (s : Sight) (by : Session) (replied : List Item) (c : Client) (up : List ClientMsg) (down : List Answer) (to : ℕ) (items : List (Field × LeaseKind)) (fresh : Option (List ℕ)) → c.exchange ≡ None → AreOfGivenKinds items → Seat skew greatest s by replied c up down
-    → Seat skew greatest s by replied (with_exchange (Asks to items fresh) c) (up ++ Ask items fresh ∷ []) down
-seat_asks skew greatest s by replied c up down to items fresh idle given h = seat_asking skew greatest s by replied c up down (Asks to items fresh) (Ask items fresh) idle (record {
+pub session_asks : (skew greatest : ℕ) (s : Sight) (by : Session) (replied : List Item) (c : Client) (up : List ClientMsg) (down : List Answer) (to : ℕ) (items : List (Field × LeaseKind)) (fresh : Option (List ℕ)) → c.exchange ≡ None → AreOfGivenKinds items → SessionStateHolds skew greatest s by replied c up down
+    → SessionStateHolds skew greatest s by replied (with_exchange (Asks to items fresh) c) (up ++ Ask items fresh ∷ []) down
+session_asks skew greatest s by replied c up down to items fresh idle given h = session_asking skew greatest s by replied c up down (Asks to items fresh) (Ask items fresh) idle (record {
   question = refl;
   ships = tt;
   front = λ entries i. elim i as (λ _. IsFront entries (settled_now c)) [ inl e ↦ absurd (cc) | inr z ↦ absurd z ];
@@ -108,9 +108,9 @@ seat_asks skew greatest s by replied c up down to items fresh idle given h = sea
 -- ## The log is handed in
 
 -- entries at the front of it
-pub seat_ships : (skew greatest : ℕ) (s : Sight) (by : Session) (replied : List Item) (c : Client) (up : List ClientMsg) (down : List Answer) (to : ℕ) (sent rest : List Entry) → c.log ≡ sent ++ rest → c.exchange ≡ None → c.over ≡ None → Seat skew greatest s by replied c up down
-    → Seat skew greatest s by replied (with_exchange (Ships to (length sent)) c) (up ++ Ship sent ∷ []) down
-seat_ships skew greatest s by replied c up down to sent rest log idle open_ h = seat_asking skew greatest s by replied c up down (Ships to (length sent)) (Ship sent) idle (record {
+pub session_ships : (skew greatest : ℕ) (s : Sight) (by : Session) (replied : List Item) (c : Client) (up : List ClientMsg) (down : List Answer) (to : ℕ) (sent rest : List Entry) → c.log ≡ sent ++ rest → c.exchange ≡ None → c.over ≡ None → SessionStateHolds skew greatest s by replied c up down
+    → SessionStateHolds skew greatest s by replied (with_exchange (Ships to (length sent)) c) (up ++ Ship sent ∷ []) down
+session_ships skew greatest s by replied c up down to sent rest log idle open_ h = session_asking skew greatest s by replied c up down (Ships to (length sent)) (Ship sent) idle (record {
   question = refl;
   ships = let n = ap length log in let m = length-append sent rest in omega arith;
   leads = led_nothing (Ship sent) c.led (λ n e. absurd (cc));
@@ -129,9 +129,9 @@ pub pair_numbers_of : (ks : List ViewLease) → pair_numbers (map pair_of ks) �
 pair_numbers_of [] = refl
 pair_numbers_of (k ∷ ks) = ap (λ ns. number_of k.standing ∷ ns) (pair_numbers_of ks)
 
-pub seat_renews : (skew greatest : ℕ) (s : Sight) (by : Session) (replied : List Item) (c : Client) (up : List ClientMsg) (down : List Answer) (to : ℕ) (ks : List ViewLease) → ((k : ViewLease) → In k ks → In k c.view.leases) → c.exchange ≡ None → Seat skew greatest s by replied c up down
-    → Seat skew greatest s by replied (with_exchange (Renews to (numbers_in ks)) c) (up ++ Renew (map pair_of ks) ∷ []) down
-seat_renews skew greatest s by replied c up down to ks among idle h = seat_asking skew greatest s by replied c up down (Renews to (numbers_in ks)) (Renew (map pair_of ks)) idle (record {
+pub session_renews : (skew greatest : ℕ) (s : Sight) (by : Session) (replied : List Item) (c : Client) (up : List ClientMsg) (down : List Answer) (to : ℕ) (ks : List ViewLease) → ((k : ViewLease) → In k ks → In k c.view.leases) → c.exchange ≡ None → SessionStateHolds skew greatest s by replied c up down
+    → SessionStateHolds skew greatest s by replied (with_exchange (Renews to (numbers_in ks)) c) (up ++ Renew (map pair_of ks) ∷ []) down
+session_renews skew greatest s by replied c up down to ks among idle h = session_asking skew greatest s by replied c up down (Renews to (numbers_in ks)) (Renew (map pair_of ks)) idle (record {
   question = pair_numbers_of ks;
   ships = tt;
   front = λ entries i. elim i as (λ _. IsFront entries (settled_now c)) [ inl e ↦ absurd (cc) | inr z ↦ absurd z ];
@@ -208,7 +208,8 @@ came_all (n ∷ ns) v k i =
       among = p.1.0;
       number = sym (one_keeps number_of leaving leaving_number n p.0) ∙ ap (λ (x : ViewLease). number_of x.standing) (sym p.1.1) ∙ q.number;
       pair = sym (one_keeps pair_in leaving leave_pair n p.0) ∙ ap pair_of (sym p.1.1) ∙ q.pair;
-      entries = sym (one_keeps entries_of leaving leave_entries n p.0) ∙ ap (λ (x : ViewLease). entries_of x.standing) (sym p.1.1) ∙ q.entries;
+      entries =
+          sym (one_keeps entries_of leaving leave_entries n p.0) ∙ ap (λ (x : ViewLease). entries_of x.standing) (sym p.1.1) ∙ q.entries;
       lease = λ l h. one_lease n p.0 l (ap lease_in (sym p.1.1) ∙ q.lease l h);
     }
 

@@ -25,22 +25,22 @@ use Rattle.fs_serial.specs.Sight.{Sight}
 use Rattle.fs_serial.specs.World.{message_in, pushed}
 use Rattle.fs_serial.proofs.Grants.Claims.{none_anew}
 use Rattle.fs_serial.proofs.OneServer.ClientSteps.{IsMoved}
-use Rattle.fs_serial.proofs.Returns.Releases.{seat_releases, releases_anew}
-use Rattle.fs_serial.proofs.ClientMessages.Seats.{Seat, seen_at}
-use Rattle.fs_serial.proofs.ClientMessages.Sends.{seat_ships, seat_renews}
+use Rattle.fs_serial.proofs.Returns.Releases.{session_releases, releases_anew}
+use Rattle.fs_serial.proofs.ClientMessages.SessionStates.{SessionStateHolds, seen_at}
+use Rattle.fs_serial.proofs.ClientMessages.Sends.{session_ships, session_renews}
 
 -- these stand first
 record HasFront (front all : List Entry) : Type 0 where
   pub rest : List Entry
   pub is : all ≡ front ++ rest
 
-module _ (skew greatest : ℕ) (s : Sight) (by : Session) (replied : List Item) (c : Client) (up : List ClientMsg) (down : List Answer) (h : Seat skew greatest s by replied c up down) where
+module _ (skew greatest : ℕ) (s : Sight) (by : Session) (replied : List Item) (c : Client) (up : List ClientMsg) (down : List Answer) (h : SessionStateHolds skew greatest s by replied c up down) where
   -- the session where the client did as planned
   abbrev Moves : Plan ClientNote → Type 0
   Moves p = IsMoved skew greatest s s by replied c down None (record { client = changed p.ready.change c; up = pushed (message_in p.out.send) up; down = down })
 
   stays : Moves (idle c)
-  stays = record { seat = h; reserves = none_anew (seen_at by c down) }
+  stays = record { state = h; reserves = none_anew (seen_at by c down) }
 
   front : (to : ℕ) (es : List Entry) → HasFront (entries_at c to es) es
   front to [] = record { rest = []; is = refl }
@@ -54,13 +54,13 @@ module _ (skew greatest : ℕ) (s : Sight) (by : Session) (replied : List Item) 
   hands_in idle going (e ∷ es) log =
       let to = hinted c (home_of e.op) in
       let q = front to (e ∷ es) in
-      record { seat = seat_ships skew greatest s by replied c up down to (entries_at c to (e ∷ es)) q.rest (log ∙ q.is) idle going h; reserves = none_anew (seen_at by c down) }
+      record { state = session_ships skew greatest s by replied c up down to (entries_at c to (e ∷ es)) q.rest (log ∙ q.is) idle going h; reserves = none_anew (seen_at by c down) }
 
   keeps : c.exchange ≡ None → (ks : List ViewLease) → ((k : ViewLease) → In k ks → In k c.view.leases) → Moves (renew_some ks c)
   keeps idle [] among = stays
   keeps idle (k ∷ ks) among =
       let to = hinted c (file_in k.standing) in
-      record { seat = seat_renews skew greatest s by replied c up down to (kept_at c to (k ∷ ks)) (λ x i. among x (In-filter (λ (z : ViewLease). hinted c (file_in z.standing) == to) x (k ∷ ks) i)) idle h; reserves = none_anew (seen_at by c down) }
+      record { state = session_renews skew greatest s by replied c up down to (kept_at c to (k ∷ ks)) (λ x i. among x (In-filter (λ (z : ViewLease). hinted c (file_in z.standing) == to) x (k ∷ ks) i)) idle h; reserves = none_anew (seen_at by c down) }
 
   ending_now : c.exchange ≡ None → Moves (renew_some (ending (c.last + c.term / 2) c.view) c)
   ending_now idle = keeps idle (ending (c.last + c.term / 2) c.view) (λ k i. In-filter (λ (x : ViewLease). not x.recalled && ends_by (c.last + c.term / 2) x.standing) k c.view.leases i)
@@ -71,7 +71,7 @@ module _ (skew greatest : ℕ) (s : Sight) (by : Session) (replied : List Item) 
       let to = hinted c (file_in k.standing) in
       let these : (x : ViewLease) → In x (kept_at c to (k ∷ ks)) → In x (returned c.view) = λ x i. subst (In x) (sym e) (In-filter (λ (z : ViewLease). hinted c (file_in z.standing) == to) x (k ∷ ks) i) in
       record {
-        seat = seat_releases skew greatest s by replied c up down to (kept_at c to (k ∷ ks)) these idle h;
+        state = session_releases skew greatest s by replied c up down to (kept_at c to (k ∷ ks)) these idle h;
         reserves = releases_anew skew greatest s by replied c up down to (kept_at c to (k ∷ ks)) these idle h;
       }
 

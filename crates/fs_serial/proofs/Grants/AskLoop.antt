@@ -24,7 +24,7 @@ use Rattle.fs_serial.specs.Parts.{with_client}
 use Rattle.fs_serial.specs.Settled.{Settled, granted, with_leases}
 use Rattle.fs_serial.specs.Sight.{Counts, seen, sight_of}
 use Rattle.fs_serial.specs.World.{Ends, GoesOn}
-use Rattle.fs_serial.proofs.OtherSessions.Again.{goes_again}
+use Rattle.fs_serial.proofs.OtherSessions.ClientChanges.{goes_again}
 use Rattle.fs_serial.proofs.Grants.GrantItem.{item_granted}
 use Rattle.fs_serial.proofs.DecidedEffects.GrantsPast.{answers_alike, stand_leased, told_right}
 use Rattle.fs_serial.proofs.Grants.Leased.{In-put_still}

@@ -34,7 +34,7 @@ use Rattle.fs_serial.specs.Parts.{with_client}
 use Rattle.fs_serial.specs.Settled.{Lease, Settled, granted, lease_in, lease_with, told, with_leases}
 use Rattle.fs_serial.specs.Sight.{Counts, Sight, seen, sight_of, IsGiven}
 use Rattle.fs_serial.specs.World.{Ends, GoesOn}
-use Rattle.fs_serial.proofs.OtherSessions.Again.{client_same, goes_again}
+use Rattle.fs_serial.proofs.OtherSessions.ClientChanges.{client_same, goes_again}
 use Rattle.fs_serial.proofs.Grants.AskFits.{GrantsUpTo, IsGivenFor, KeptUpTo, given_for, new_number, value_is}
 use Rattle.fs_serial.proofs.Grants.AskLoop.{IsAsking, asked_still, given_so_far}
 use Rattle.fs_serial.proofs.Lists.Children.{parent_child}

@@ -37,7 +37,7 @@ use Rattle.fs_serial.specs.Exchange.{ReturnsFit}
 use Rattle.fs_serial.specs.Fresh.{FreshReserved, Reserved, reserved_by}
 use Rattle.fs_serial.specs.World.{Ends, GoesOn}
 use Rattle.fs_serial.proofs.OtherSessions.Gone.{all_anew}
-use Rattle.fs_serial.proofs.OneServer.Going.{carried_leased, carried_still}
+use Rattle.fs_serial.proofs.OneServer.LeaseChanges.{carried_leased, carried_still}
 use Rattle.fs_serial.specs.Laws.{IsGift, GiftIsRelied, GiftIsTold, GiftKeepsParts, GiftReturnsNone, lease_given, with_given}
 use Rattle.fs_serial.specs.Leases.{IsFresh, IsRowOf, LeasesGiven}
 use Rattle.fs_serial.specs.Parts.{with_client, ServersHold, ServersFit, SessionHolds, SessionFits}
@@ -47,7 +47,7 @@ use Rattle.fs_serial.specs.Rows.{RowsCounted, RowsGiven}
 use Rattle.fs_serial.specs.Settled.{Lease, Settled, granted, told, with_leases}
 use Rattle.fs_serial.specs.Sight.{Counts, Sight, sight_of, IsGiven}
 use Rattle.fs_serial.proofs.Lists.Children.{parent_child}
-use Rattle.fs_serial.proofs.Lists.Facts.{each_more, below_itself}
+use Rattle.fs_serial.proofs.Lists.Journals.{each_more, below_itself}
 use Rattle.fs_serial.proofs.Lists.Counting.{given_is_other, next_is_given, next_is_new, one_more_given, still_given}
 use Rattle.fs_serial.proofs.Grants.Claims.{unmade_dead}
 use Rattle.fs_serial.proofs.Grants.GiftReserved.{reserved_still, reserved_then}

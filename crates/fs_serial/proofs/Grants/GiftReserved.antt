@@ -18,7 +18,7 @@ use Rattle.fs_serial.specs.Settled.{Lease, Settled, with_leases}
 use Rattle.fs_serial.proofs.Lists.Children.{above_child, child_is}
 use Rattle.fs_serial.specs.Parts.{with_client}
 use Rattle.fs_serial.proofs.OtherSessions.Together.{each_session}
-use Rattle.fs_serial.proofs.Lists.Facts.{below_itself}
+use Rattle.fs_serial.proofs.Lists.Journals.{below_itself}
 use Rattle.fs_serial.proofs.Grants.GiftedRecords.{directories_stay, next_here, next_rises}
 
 -- ## What was made

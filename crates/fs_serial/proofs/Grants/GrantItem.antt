@@ -25,7 +25,7 @@ use Rattle.fs_serial.specs.Settled.{Lease, Settled, granted, with_leases}
 use Rattle.fs_serial.specs.Sight.{Counts, IsGiven, sight_of}
 use Rattle.fs_serial.specs.World.{Ends, GoesOn}
 use Rattle.fs_serial.proofs.Lists.Counting.{given_is_other, next_is_given, next_is_new, one_more_given, still_given}
-use Rattle.fs_serial.proofs.OneServer.Going.{RowsChange, goes_leased, goes_still, reserved_none}
+use Rattle.fs_serial.proofs.OneServer.LeaseChanges.{RowsChange, goes_leased, goes_still, reserved_none}
 use Rattle.fs_serial.proofs.Grants.Granting.{apart_granted, promises_granted, shapes_granted}
 use Rattle.fs_serial.proofs.Grants.Leased.{In-with_row, IsNewLease, row_relied}
 use Rattle.fs_serial.proofs.OtherSessions.Relied.{relies_for}

@@ -24,7 +24,7 @@ use Rattle.fs_serial.specs.Relies.{Relies, Stood}
 use Rattle.fs_serial.specs.Settled.{Lease, Settled, with_leases}
 use Rattle.fs_serial.specs.Sight.{Sight, IsGiven}
 use Rattle.fs_serial.proofs.LedOperations.LedKept.{each_led}
-use Rattle.fs_serial.proofs.Lists.Facts.{each_more}
+use Rattle.fs_serial.proofs.Lists.Journals.{each_more}
 use Rattle.fs_serial.proofs.OtherSessions.Gone.{still_gone}
 
 -- ## One row more

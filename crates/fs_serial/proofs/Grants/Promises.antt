@@ -28,7 +28,7 @@ use Rattle.fs_server.specs.Plan.{is_shaped}
 use Rattle.fs_serial.specs.Parts.{ServersHold, ServersFit}
 use Rattle.fs_serial.specs.Rows.{PromisesKept, RowsShaped}
 use Rattle.fs_serial.specs.Sight.{Sight}
-use Rattle.fs_serial.proofs.Lists.Facts.{there_is}
+use Rattle.fs_serial.proofs.Lists.Journals.{there_is}
 use Rattle.fs_serial.proofs.Grants.GiftedRecords.{node_stays}
 use Rattle.fs_serial.proofs.Grants.Leased.{In-with_row}
 use Rattle.fs_serial.proofs.Lists.Modes.{others_alike}

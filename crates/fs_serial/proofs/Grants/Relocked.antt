@@ -16,7 +16,7 @@ use Rattle.fs_serial.specs.Locks.{KeepsParts, LockKeepsParts, UnlockKeepsParts}
 use Rattle.fs_serial.specs.Settled.{Settled}
 use Rattle.fs_serial.specs.Sight.{Sight, IsGiven}
 use Rattle.fs_serial.specs.World.{first_ends}
-use Rattle.fs_serial.proofs.OneServer.Going.{RowsChange, all_still}
+use Rattle.fs_serial.proofs.OneServer.LeaseChanges.{RowsChange, all_still}
 use Rattle.fs_serial.proofs.Grants.Granting.{shapes_mapped}
 use Rattle.fs_serial.proofs.Grants.RowKinds.{with_rows}
 

@@ -18,7 +18,7 @@ use Rattle.fs_serial.specs.Exchange.{ReturnFits}
 use Rattle.fs_serial.specs.Parts.{AllHold}
 use Rattle.fs_serial.specs.Settled.{Lease, Settled}
 use Rattle.fs_serial.specs.Sight.{Counts, Sight, IsGiven, sight_of}
-use Rattle.fs_serial.proofs.OneServer.Going.{RowsChange}
+use Rattle.fs_serial.proofs.OneServer.LeaseChanges.{RowsChange}
 use Rattle.fs_serial.proofs.Grants.Granting.{shapes_filtered, shapes_renewed}
 use Rattle.fs_serial.proofs.Grants.Promises.{promises_filtered, promises_renewed}
 

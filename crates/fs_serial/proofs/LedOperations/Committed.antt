@@ -61,7 +61,7 @@ use Rattle.fs_serial.proofs.Admission.Admit.{stays_below}
 use Rattle.fs_serial.proofs.Admission.AdmitAll.{fewer_anew}
 use Rattle.fs_serial.proofs.Grants.Claims.{NoneAnew, Was, none_anew, one_still, was_there}
 use Rattle.fs_serial.proofs.Admission.AdmitOthers.{no_item_meets}
-use Rattle.fs_serial.proofs.Lists.Facts.{each_image, items-other, items-own, known_nodes, made-append, made_before, nodes_all, or_none, reaps-still, serial_push, session_itself}
+use Rattle.fs_serial.proofs.Lists.Journals.{each_image, items-other, items-own, known_nodes, made-append, made_before, nodes_all, or_none, reaps-still, serial_push, session_itself}
 use Rattle.fs_serial.proofs.OtherSessions.Gone.{all_anew, gone_later, made_more}
 use Rattle.fs_serial.proofs.OtherSessions.Relied.{relied_fits, relied_holds}
 use Rattle.fs_serial.proofs.Replies.Reply.{number_more}

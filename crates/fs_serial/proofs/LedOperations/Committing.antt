@@ -29,7 +29,7 @@ use Rattle.fs_serial.specs.Pending.{AllStand}
 use Rattle.fs_serial.specs.Settled.{Settled}
 use Rattle.fs_serial.specs.Sight.{Sight}
 use Rattle.fs_serial.proofs.LedOperations.Cycles.{no_cycle}
-use Rattle.fs_serial.proofs.Lists.Facts.{known_nodes}
+use Rattle.fs_serial.proofs.Lists.Journals.{known_nodes}
 use Rattle.fs_serial.proofs.LedOperations.MovedItems.{moved_parts}
 
 -- what is led moves or removes, and gets the reply of such an operation

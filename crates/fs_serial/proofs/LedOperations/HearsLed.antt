@@ -29,11 +29,11 @@ use Rattle.fs_serial.specs.Parts.{SessionFits, SessionHolds}
 use Rattle.fs_serial.specs.Pending.{HasLease}
 use Rattle.fs_serial.specs.Settled.{Settled, lease_after, led_done, led_ended, led_freed, settled, settled_now, told}
 use Rattle.fs_serial.specs.Sight.{Sight}
-use Rattle.fs_serial.proofs.Lists.Facts.{each_image}
+use Rattle.fs_serial.proofs.Lists.Journals.{each_image}
 use Rattle.fs_serial.proofs.ClientMessages.Heard.{IsHeard, heard, quiet_exchange}
 use Rattle.fs_serial.proofs.ClientMessages.HearsShipped.{HasAdmitted, WasKept, counted_all, distinct_all, known_leases, unpinned_leases, was_all}
 use Rattle.fs_serial.proofs.Replies.ReplyPins.{distinct_mapped}
-use Rattle.fs_serial.proofs.ClientMessages.Seats.{Seat, seen_at}
+use Rattle.fs_serial.proofs.ClientMessages.SessionStates.{SessionStateHolds, seen_at}
 
 module _ (by : Session) (c : Client) (l : TheLed) (is : c.led ≡ Some l) (f : ClientFits by c) where
   -- each lease is in use by what is led and by the log
@@ -118,8 +118,8 @@ quiet_then l (end.Ended lease until now) c = refl
 quiet_then l (end.Again why) c = refl
 
 -- all that holds of its session
-pub seat_led : (skew greatest : ℕ) (s : Sight) (by : Session) (replied : List Item) (c : Client) (up : List ClientMsg) (l : TheLed) (is : c.led ≡ Some l) (e : LedEnd) (rest : List Answer) → Seat skew greatest s by replied c up (Led e ∷ rest) → Seat skew greatest s by replied (changed (ended_plan l e c).ready.change c) up rest
-seat_led skew greatest s by replied c up l is e rest h =
+pub session_led : (skew greatest : ℕ) (s : Sight) (by : Session) (replied : List Item) (c : Client) (up : List ClientMsg) (l : TheLed) (is : c.led ≡ Some l) (e : LedEnd) (rest : List Answer) → SessionStateHolds skew greatest s by replied c up (Led e ∷ rest) → SessionStateHolds skew greatest s by replied (changed (ended_plan l e c).ready.change c) up rest
+session_led skew greatest s by replied c up l is e rest h =
     let w : IsHeard c up (Led e) rest = heard c c.exchange up (Led e) rest refl refl h.exchange.one in
     let then_ : Client = changed (ended_plan l e c).ready.change c in
     let q : HasAdmitted by c then_ (told by (Led e) (settled_now c)) = led_heard by c l is h.client e in
@@ -135,7 +135,7 @@ seat_led skew greatest s by replied c up l is e rest h =
     }
 
 -- it was going to know so
-pub led_seen : (skew greatest : ℕ) (s : Sight) (by : Session) (replied : List Item) (c : Client) (up : List ClientMsg) (l : TheLed) (is : c.led ≡ Some l) (e : LedEnd) (rest : List Answer) → Seat skew greatest s by replied c up (Led e ∷ rest) → seen_at by (changed (ended_plan l e c).ready.change c) rest ≡ seen_at by c (Led e ∷ rest)
+pub led_seen : (skew greatest : ℕ) (s : Sight) (by : Session) (replied : List Item) (c : Client) (up : List ClientMsg) (l : TheLed) (is : c.led ≡ Some l) (e : LedEnd) (rest : List Answer) → SessionStateHolds skew greatest s by replied c up (Led e ∷ rest) → seen_at by (changed (ended_plan l e c).ready.change c) rest ≡ seen_at by c (Led e ∷ rest)
 led_seen skew greatest s by replied c up l is e rest h = ap (settled by rest) (led_heard by c l is h.client e).settled
 
 -- something is led where such an answer fits

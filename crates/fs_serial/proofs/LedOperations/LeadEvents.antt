@@ -35,13 +35,13 @@ use Rattle.fs_serial.specs.Seen.{ClusterHolds, counts_of, ends_of, with_all, wor
 use Rattle.fs_serial.specs.Sight.{sight_of}
 use Rattle.fs_serial.specs.World.{World, WorldHolds, settled_at}
 use Rattle.fs_serial.specs.World as world
-use Rattle.fs_serial.proofs.OtherSessions.Again.{its_own}
+use Rattle.fs_serial.proofs.OtherSessions.ClientChanges.{its_own}
 use Rattle.fs_serial.proofs.LedOperations.Committing.{committed_led}
 use Rattle.fs_serial.proofs.LedOperations.LeadSame.{stays_apart}
 use Rattle.fs_serial.proofs.LedOperations.LedSteps.{led_stands, to_lead, world_freed, world_led_whole}
 use Rattle.fs_serial.proofs.DecidedEffects.Owing.{none_fits}
 use Rattle.fs_serial.proofs.Places.PutRows.{In-puts_still}
-use Rattle.fs_serial.proofs.Places.RestOf.{IsBetween, between}
+use Rattle.fs_serial.proofs.Places.ClusterPlaces.{IsBetween, between}
 use Rattle.fs_serial.proofs.Admission.Rowed.{all_found}
 use Rattle.fs_serial.proofs.OneServer.SameStep.{here, more}
 use Rattle.fs_serial.proofs.OneServer.ServerEvents.{one_up}

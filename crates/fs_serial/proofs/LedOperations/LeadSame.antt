@@ -43,8 +43,8 @@ use Rattle.fs_serial.proofs.LedOperations.Committing.{StaysApart, kind_there}
 use Rattle.fs_serial.proofs.LedOperations.MoveScripts.{file_led, home_led, source_led}
 use Rattle.fs_serial.proofs.LedOperations.MovedItems.{other_dir_lives}
 use Rattle.fs_serial.proofs.Places.PutRecords.{AreOn}
-use Rattle.fs_serial.proofs.Places.Rest.{IsApart, Rest, effects_apart, effects_joined, itself, joined, record_here}
-use Rattle.fs_serial.proofs.Places.RestOf.{IsBetween, between}
+use Rattle.fs_serial.proofs.Places.OtherPlaces.{IsApart, Rest, effects_apart, effects_joined, itself, joined, record_here}
+use Rattle.fs_serial.proofs.Places.ClusterPlaces.{IsBetween, between}
 use Rattle.fs_serial.proofs.OneServer.SameStep.{IsSameStep, apart, here, more, stepped}
 use Rattle.fs_serial.proofs.OneServer.Sim.{IsSim}
 

@@ -48,13 +48,13 @@ use Rattle.fs_serial.proofs.DecidedEffects.CommitPast.{commit_apart}
 use Rattle.fs_serial.proofs.LedOperations.Committed.{commit_keeps_parts}
 use Rattle.fs_serial.proofs.LedOperations.Committing.{led_reply}
 use Rattle.fs_serial.proofs.Lists.Counting.{given_by}
-use Rattle.fs_serial.proofs.OneServer.Going.{carried_alike}
+use Rattle.fs_serial.proofs.OneServer.LeaseChanges.{carried_alike}
 use Rattle.fs_serial.proofs.OtherSessions.Gone.{made_more}
 use Rattle.fs_serial.proofs.DecidedEffects.GrantsPast.{all_decided, gone_there}
 use Rattle.fs_serial.proofs.LedOperations.MovedItems.{moved_parts}
 use Rattle.fs_serial.proofs.OtherSessions.Older.{later_itself}
 use Rattle.fs_serial.proofs.DecidedEffects.Owing.{answered_owed, fits_then, led_owed, others_in}
-use Rattle.fs_serial.proofs.ClientMessages.Seats.{settled_none}
+use Rattle.fs_serial.proofs.ClientMessages.SessionStates.{settled_none}
 use Rattle.fs_serial.proofs.ClientMessages.Sending.{asked, goes_of, world_answered}
 use Rattle.fs_serial.proofs.Grants.Claims.{NoneAnew, none_anew}
 use Rattle.fs_serial.proofs.DecidedEffects.StandPast.{AllApart}

@@ -22,7 +22,7 @@ use Rattle.fs_server.specs.declared.state.Server.{Server}
 use Rattle.fs_serial.specs.Cluster.{Cluster, parcels_of}
 use Rattle.fs_serial.specs.Places.{IsHome, PlacesHold, gives_it}
 use Rattle.fs_serial.proofs.Lists.Counted.{at_least, one_if, total}
-use Rattle.fs_serial.proofs.Lists.Facts.{there_is}
+use Rattle.fs_serial.proofs.Lists.Journals.{there_is}
 use Rattle.fs_serial.proofs.Places.HeldRecords.{HasRecord, IsOneOf, put_all}
 use Rattle.fs_serial.proofs.Lists.Listed.{map_made}
 use Rattle.fs_serial.proofs.Places.OnePlaces.{not_both, one_record, record_sent, row_sent}

@@ -44,7 +44,7 @@ use Rattle.fs_serial.specs.Runs.{held_by}
 use Rattle.fs_serial.specs.Seen.{with_all}
 use Rattle.fs_serial.specs.Sight.{Counts, sight_of}
 use Rattle.fs_serial.proofs.Lists.Counted.{total, total_append, total_set}
-use Rattle.fs_serial.proofs.Lists.Facts.{there_is}
+use Rattle.fs_serial.proofs.Lists.Journals.{there_is}
 use Rattle.fs_serial.proofs.Moves.GoingParts.{going, managed, parted, parts, still_mine, tells}
 use Rattle.fs_serial.proofs.Places.HeldRecords.{has_record, same_records}
 use Rattle.fs_serial.proofs.Places.HeldRows.{same_rows}

@@ -177,7 +177,8 @@ module _ (c : Cluster) (h : PlacesHold c) (s : Server) (i : In s c.servers) (p :
         forth r (inl z) = absurd z
         forth r (inr k) = inr (p, j, k)
 
-        alone : (r t : Record) → HasRecord c.servers (parcels_of c.in_flight) id r → HasRecord c.servers (parcels_of c.in_flight) id t → r ≡ t
+        alone : (r t : Record) → HasRecord c.servers (parcels_of c.in_flight) id r → HasRecord c.servers (parcels_of c.in_flight) id t
+            → r ≡ t
         alone r t a b = one_record c h id r t a b
 
     its_selves : (id : List ℕ) → gives_it id p ≡ true → selves_in records id ≡ listed id

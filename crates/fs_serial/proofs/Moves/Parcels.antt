@@ -75,7 +75,8 @@ amount_first : (g : Parcel → ℕ) (o : Option Parcel) (ps : List Parcel) → t
 amount_first g None ps = omega arith
 amount_first g (Some p) ps = refl
 
-total_parcels : (g : Parcel → ℕ) (fs : List InFlight) → total g (parcels_of fs) ≡ total (λ (f : InFlight). amount g (parcel_in f.message)) fs
+total_parcels : (g : Parcel → ℕ) (fs : List InFlight)
+    → total g (parcels_of fs) ≡ total (λ (f : InFlight). amount g (parcel_in f.message)) fs
 total_parcels g [] = refl
 total_parcels g (f ∷ fs) = amount_first g (parcel_in f.message) (parcels_of fs) ∙ ap (λ n. amount g (parcel_in f.message) + n) (total_parcels g fs)
 

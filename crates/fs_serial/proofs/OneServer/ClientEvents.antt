@@ -32,13 +32,13 @@ use Rattle.fs_serial.specs.Numbers.{items_by}
 use Rattle.fs_serial.specs.Sight.{Sight}
 use Rattle.fs_serial.specs.World.{CanCome, is_called, ClientEvent, Does, Ends, Hears, Turns, World, WorldHolds, after_client, after_plan, message_in, pushed, settled_at, sight_in, told_by}
 use Rattle.fs_serial.proofs.ClientMessages.ActMoves.{IsPlanned, ServersMoved, ReadsAt, act_moved, reads_right, same_items, servers_stay, with_items}
-use Rattle.fs_serial.proofs.OneServer.ClientSteps.{IsMoved, begun_again, begun_moved, hinted_moved, seat_of, with_journal, world_moved}
+use Rattle.fs_serial.proofs.OneServer.ClientSteps.{IsMoved, begun_again, begun_moved, hinted_moved, session_of, with_journal, world_moved}
 use Rattle.fs_serial.proofs.Grants.Claims.{AreUnborn, none_anew_then}
 use Rattle.fs_serial.proofs.OtherSessions.Gone.{MakeAnew, all_anew, all_unborn, made_pushed}
 use Rattle.fs_serial.proofs.ClientMessages.HearMoves.{fits_first, hear_moved}
 use Rattle.fs_serial.proofs.Returns.Lapse.{lapse_fewer}
 use Rattle.fs_serial.proofs.Replies.Read.{IsReadOf, item_read, plain_is_read, plain_read}
-use Rattle.fs_serial.proofs.ClientMessages.Seats.{Seat, seen_at}
+use Rattle.fs_serial.proofs.ClientMessages.SessionStates.{SessionStateHolds, seen_at}
 use Rattle.fs_serial.proofs.ClientMessages.TurnMoves.{turn_moved}
 
 -- ## A plan of a client that has begun
@@ -65,9 +65,9 @@ module _ {N : Type 0} (greatest now : ℕ) (w : World) (by : Session) (rest : Li
 
     moved : IsMoved w.server.skew greatest s (with_journal then s) by (w.replied by) c (w.ends by).down (told_by by p.ready.change p.out.admitted) (e d)
     moved = record {
-      seat = q.moved.seat;
+      state = q.moved.state;
       reserves = none_anew_then (seen_at by c (w.ends by).down) (seen_at by (begun now c) (w.ends by).down) (seen_at by d rest)
-          (begun_moved w.server.skew greatest s by (w.replied by) c (w.ends by).up (w.ends by).down now (seat_of greatest w by h)).reserves q.moved.reserves;
+          (begun_moved w.server.skew greatest s by (w.replied by) c (w.ends by).up (w.ends by).down now (session_of greatest w by h)).reserves q.moved.reserves;
     }
 
     pub plan_keeps : WorldHolds greatest (after_plan by rest p w)
@@ -175,8 +175,8 @@ module _ (greatest now : ℕ) (w : World) (by : Session) (h : WorldHolds greates
   abbrev began : Client
   began = begun now (w.ends by).client
 
-  seat_began : Seat w.server.skew greatest (sight_in w) by (w.replied by) began (w.ends by).up (w.ends by).down
-  seat_began = (begun_moved w.server.skew greatest (sight_in w) by (w.replied by) (w.ends by).client (w.ends by).up (w.ends by).down now (seat_of greatest w by h)).seat
+  session_began : SessionStateHolds w.server.skew greatest (sight_in w) by (w.replied by) began (w.ends by).up (w.ends by).down
+  session_began = (begun_moved w.server.skew greatest (sight_in w) by (w.replied by) (w.ends by).client (w.ends by).up (w.ends by).down now (session_of greatest w by h)).state
 
   abbrev here : Sight
   here = sight_in w
@@ -190,15 +190,15 @@ module _ (greatest now : ℕ) (w : World) (by : Session) (h : WorldHolds greates
 
   -- another item may join the journal in place of a read
   acts_as : (o : Op) (called : is_called o ≡ true) (put : Item → Item)
-      → ((r : Reply) → ReadsAt w.server.skew greatest here by (w.replied by) began (w.ends by).up (w.ends by).down o called seat_began r → IsReadOf (nodes_of (sight_in w).records) by began.next (put (item_read began o r)))
+      → ((r : Reply) → ReadsAt w.server.skew greatest here by (w.replied by) began (w.ends by).up (w.ends by).down o called session_began r → IsReadOf (nodes_of (sight_in w).records) by began.next (put (item_read began o r)))
       → WorldHolds greatest (after_plan by (w.ends by).down (with_items put (act_on began.over o began)) w)
   acts_as o called put fine = plan_keeps greatest now w by (w.ends by).down (with_items put (act_on began.over o began)) h
-      (act_moved w.server.skew greatest here by (w.replied by) began (w.ends by).up (w.ends by).down o called seat_began anew unborn put fine)
+      (act_moved w.server.skew greatest here by (w.replied by) began (w.ends by).up (w.ends by).down o called session_began anew unborn put fine)
 
   acts : (o : Op) → is_called o ≡ true → greatest ≤ now + w.server.skew → WorldHolds greatest (after_client by now (Does o) w)
   acts o called within =
       subst (λ (p : Plan Act). WorldHolds greatest (after_plan by (w.ends by).down p w)) (same_items (act_on began.over o began))
-      (acts_as o called (λ i. i) (reads_right w.server.skew greatest here by (w.replied by) began (w.ends by).up (w.ends by).down o called seat_began h.all.kept.sound.space (omega arith)))
+      (acts_as o called (λ i. i) (reads_right w.server.skew greatest here by (w.replied by) began (w.ends by).up (w.ends by).down o called session_began h.all.kept.sound.space (omega arith)))
 
   -- with any reading the root's kind, as the servers have it, may join the journal in place of what was read
   pub acts_plainly : (o : Op) → is_called o ≡ true → WorldHolds greatest (after_plan by (w.ends by).down (with_items (λ i. plain_read (nodes_of (sight_in w).records) by (w.ends by).client.next) (act_plan (w.ends by).client now o)) w)
@@ -207,14 +207,15 @@ module _ (greatest now : ℕ) (w : World) (by : Session) (h : WorldHolds greates
   pub turn_keeps : WorldHolds greatest (after_client by now Turns w)
   turn_keeps = plan_keeps greatest now w by (w.ends by).down (turn_on began) h
       (quiet_planned w.server.skew greatest (sight_in w) by (w.replied by) began (w.ends by).up (w.ends by).down (w.ends by).down (turn_on began) (turn_quiet by began)
-      (turn_moved w.server.skew greatest (sight_in w) by (w.replied by) began (w.ends by).up (w.ends by).down seat_began))
+      (turn_moved w.server.skew greatest (sight_in w) by (w.replied by) began (w.ends by).up (w.ends by).down session_began))
 
   pub hear_keeps : (from : ℕ) (a : Answer) (rest : List Answer) → (w.ends by).down ≡ a ∷ rest → (is_recall a ≡ false → asked_server (w.ends by).client.exchange ≡ Some from) → WorldHolds greatest (after_client by now (Hears from a rest) w)
   hear_keeps from a rest first at = plan_keeps greatest now w by rest (hear from a began) h
       (subst (λ down. IsPlanned w.server.skew greatest (sight_in w) by (w.replied by) began (w.ends by).up down rest (hear from a began)) (sym first)
       (quiet_planned w.server.skew greatest (sight_in w) by (w.replied by) began (w.ends by).up (a ∷ rest) rest (hear from a began) (hear_quiet by began from a)
       (hear_moved w.server.skew greatest (sight_in w) by (w.replied by) began (w.ends by).up rest from a at
-      (subst (λ down. Seat w.server.skew greatest (sight_in w) by (w.replied by) began (w.ends by).up down) first seat_began))))
+      (subst (λ down. SessionStateHolds w.server.skew greatest (sight_in w) by (w.replied by) began
+          (w.ends by).up down) first session_began))))
 
   pub client_keeps : (e : ClientEvent) → CanCome by e w.ends → greatest ≤ now + w.server.skew → WorldHolds greatest (after_client by now e w)
   client_keeps (Does o) can within = acts o can within
@@ -225,5 +226,6 @@ module _ (greatest now : ℕ) (w : World) (by : Session) (h : WorldHolds greates
   pub never_strange : (from : ℕ) (a : Answer) (rest : List Answer) → CanCome by (Hears from a rest) w.ends → (answer_plan (w.ends by).client now from a).out.note ≢ note.Strange
   never_strange from a rest can =
       let fit = fits_first w.server.skew greatest (sight_in w) by (w.replied by) began (w.ends by).up rest from a can.1
-      (subst (λ down. Seat w.server.skew greatest (sight_in w) by (w.replied by) began (w.ends by).up down) can.0 seat_began) in
+      (subst (λ down. SessionStateHolds w.server.skew greatest (sight_in w) by (w.replied by) began
+          (w.ends by).up down) can.0 session_began) in
       subst (λ b. (cond b (told a began) (strange began)).out.note ≢ note.Strange) (sym fit) (told_known began from a fit)

@@ -22,21 +22,21 @@ use Rattle.fs_serial.specs.World.{Ends, World, WorldHolds, pushed, settled_at, s
 use Rattle.fs_serial.proofs.LedOperations.LedKept.{each_led}
 use Rattle.fs_serial.proofs.ClientMessages.Carried.{GoesOnAs, exchange_still}
 use Rattle.fs_serial.proofs.OtherSessions.Gone.{telling_later}
-use Rattle.fs_serial.proofs.Returns.Lapse.{lapse_fewer, seat_lapse}
-use Rattle.fs_serial.proofs.ClientMessages.Seats.{Seat, seen_at}
+use Rattle.fs_serial.proofs.Returns.Lapse.{lapse_fewer, session_lapse}
+use Rattle.fs_serial.proofs.ClientMessages.SessionStates.{SessionStateHolds, seen_at}
 use Rattle.fs_serial.proofs.Grants.Claims.{NoneAnew, none_anew, none_anew_in}
 use Rattle.fs_serial.proofs.OtherSessions.Together.{fewer_reserved}
 
-pub seat_of : (greatest : ℕ) (w : World) (x : Session) → WorldHolds greatest w → Seat w.server.skew greatest (sight_in w) x (w.replied x) (w.ends x).client (w.ends x).up (w.ends x).down
-seat_of greatest w x h = record { holds = h.all.sessions x; fits = h.all.fitting x; client = h.clients x; exchange = h.exchanges x }
+pub session_of : (greatest : ℕ) (w : World) (x : Session) → WorldHolds greatest w → SessionStateHolds w.server.skew greatest (sight_in w) x (w.replied x) (w.ends x).client (w.ends x).up (w.ends x).down
+session_of greatest w x h = record { holds = h.all.sessions x; fits = h.all.fitting x; client = h.clients x; exchange = h.exchanges x }
 
 -- the sight with another journal
 abbrev pub with_journal : List Item → Sight → Sight
 with_journal journal s = record s { journal = journal }
 
 -- another session's items in the journal are of no matter
-pub seat_beside : (skew greatest : ℕ) (s : Sight) (x : Session) (replied : List Item) (c : Client) (up : List ClientMsg) (down : List Answer) (journal : List Item) → ((id : List ℕ) → IsMade s.journal id → IsMade journal id) → items_by x journal ≡ items_by x s.journal → Seat skew greatest s x replied c up down → Seat skew greatest (with_journal journal s) x replied c up down
-seat_beside skew greatest s x replied c up down journal grows same h =
+pub session_beside : (skew greatest : ℕ) (s : Sight) (x : Session) (replied : List Item) (c : Client) (up : List ClientMsg) (down : List Answer) (journal : List Item) → ((id : List ℕ) → IsMade s.journal id → IsMade journal id) → items_by x journal ≡ items_by x s.journal → SessionStateHolds skew greatest s x replied c up down → SessionStateHolds skew greatest (with_journal journal s) x replied c up down
+session_beside skew greatest s x replied c up down journal grows same h =
     let d = seen_at x c down in
     let items : all_items x journal d.log ≡ all_items x s.journal d.log = ap (λ is. is ++ map (item_of x) d.log) same in
     record {
@@ -48,7 +48,7 @@ seat_beside skew greatest s x replied c up down journal grows same h =
 
 -- a session's client, what is on its way, and what its caller is told, after a step
 pub record IsMoved (skew greatest : ℕ) (s t : Sight) (by : Session) (replied : List Item) (c : Client) (down : List Answer) (told : Option Item) (e : Ends) : Type 0 where
-  pub seat : Seat skew greatest t by (pushed told replied) e.client e.up e.down
+  pub state : SessionStateHolds skew greatest t by (pushed told replied) e.client e.up e.down
   -- no identifier is reserved anew
   pub reserves : NoneAnew (seen_at by c down) (settled_at by e)
 
@@ -64,9 +64,9 @@ module _ (greatest : ℕ) (w : World) (by : Session) (journal : List Item) (told
   abbrev ends : Session → Ends
   ends = with_ends by e w.ends
 
-  seats : (x : Session) → Seat w.server.skew greatest (sight_of w.counts (seen w.decided w.server) journal) x (with_told by told w.replied x) (ends x).client (ends x).up (ends x).down
-  seats = each_two (λ x is n. Seat w.server.skew greatest (sight_of w.counts (seen w.decided w.server) journal) x is n.client n.up n.down) by told e w.replied w.ends moved.seat
-      (λ x q. seat_beside w.server.skew greatest (sight_in w) x (w.replied x) (w.ends x).client (w.ends x).up (w.ends x).down journal grows (others x q) (seat_of greatest w x h))
+  states : (x : Session) → SessionStateHolds w.server.skew greatest (sight_of w.counts (seen w.decided w.server) journal) x (with_told by told w.replied x) (ends x).client (ends x).up (ends x).down
+  states = each_two (λ x is n. SessionStateHolds w.server.skew greatest (sight_of w.counts (seen w.decided w.server) journal) x is n.client n.up n.down) by told e w.replied w.ends moved.state
+      (λ x q. session_beside w.server.skew greatest (sight_in w) x (w.replied x) (w.ends x).client (w.ends x).up (w.ends x).down journal grows (others x q) (session_of greatest w x h))
 
   still_reserved : (x : Session) → NoneAnew (settled_at x (w.ends x)) (settled_at x (ends x))
   still_reserved = each_two (λ x is m. NoneAnew (settled_at x (w.ends x)) (settled_at x m)) by told e w.replied w.ends
@@ -78,13 +78,13 @@ module _ (greatest : ℕ) (w : World) (by : Session) (journal : List Item) (told
     all = record {
       servers = holds;
       kept = fits;
-      sessions = λ x. (seats x).holds;
-      fitting = λ x. (seats x).fits;
+      sessions = λ x. (states x).holds;
+      fitting = λ x. (states x).fits;
       reserved = fewer_reserved (reserved_by (λ x. settled_at x (w.ends x))) (reserved_by (λ x. settled_at x (ends x))) (sight_in w).records journal still_reserved reserved;
     };
     clock = h.clock;
-    clients = λ x. (seats x).client;
-    exchanges = λ x. (seats x).exchange;
+    clients = λ x. (states x).client;
+    exchanges = λ x. (states x).exchange;
   }
 
 -- ## What a server said of who manages what
@@ -94,7 +94,7 @@ pub hinted_moved : (skew greatest : ℕ) (s t : Sight) (by : Session) (replied :
     → IsMoved skew greatest s t by replied c down told (record { client = with_hints hints d; up = up; down = rest })
 hinted_moved skew greatest s t by replied c d up down rest told None m = m
 hinted_moved skew greatest s t by replied c d up down rest told (Some hints) m =
-    let h = m.seat in
+    let h = m.state in
     let n : Client = with_hints (Some hints) d in
     let same : GoesOnAs d n [] = record {
       exchange = refl;
@@ -105,7 +105,7 @@ hinted_moved skew greatest s t by replied c d up down rest told (Some hints) m =
       goes = λ k i z. record { kept = k; among = i; number = refl; leaving = z };
     } in
     record {
-      seat = record {
+      state = record {
         holds = h.holds;
         fits = h.fits;
         client = record { session = h.client.session; viewed = h.client.viewed; pending = h.client.pending; distinct = h.client.distinct; pinned = h.client.pinned; held = h.client.held };
@@ -117,9 +117,9 @@ hinted_moved skew greatest s t by replied c d up down rest told (Some hints) m =
 
 -- ## Each event begins with the lapse of leases
 
-pub begun_moved : (skew greatest : ℕ) (s : Sight) (by : Session) (replied : List Item) (c : Client) (up : List ClientMsg) (down : List Answer) (now : ℕ) → Seat skew greatest s by replied c up down → IsMoved skew greatest s s by replied c down None (record { client = begun now c; up = up; down = down })
+pub begun_moved : (skew greatest : ℕ) (s : Sight) (by : Session) (replied : List Item) (c : Client) (up : List ClientMsg) (down : List Answer) (now : ℕ) → SessionStateHolds skew greatest s by replied c up down → IsMoved skew greatest s s by replied c down None (record { client = begun now c; up = up; down = down })
 begun_moved skew greatest s by replied c up down now h = record {
-  seat = seat_lapse skew greatest s by replied c up down now h;
+  state = session_lapse skew greatest s by replied c up down now h;
   reserves = let q = lapse_fewer by c now h.client down in none_anew_in (seen_at by c down) (seen_at by (begun now c) down) q.fewer (λ x i. subst (In x) q.log i);
 }
 

@@ -51,11 +51,11 @@ use Rattle.fs_serial.specs.Seen.{ends_of, given_at, with_all, world_of}
 use Rattle.fs_serial.specs.Settled.{Settled}
 use Rattle.fs_serial.specs.World.{IsThere, WorldHolds, settled_at}
 use Rattle.fs_serial.proofs.Lists.Children.{the_child}
-use Rattle.fs_serial.proofs.Lists.Facts.{below_itself}
+use Rattle.fs_serial.proofs.Lists.Journals.{below_itself}
 use Rattle.fs_serial.proofs.Places.PutRows.{In-puts_here}
 use Rattle.fs_serial.proofs.Places.PutRecords.{AreOn}
-use Rattle.fs_serial.proofs.Places.Rest.{IsApart, IsCounted, Rest, joined, record_here}
-use Rattle.fs_serial.proofs.Places.RestOf.{IsBetween, all_here, all_joined, apart_of, between, own_home, rest_of}
+use Rattle.fs_serial.proofs.Places.OtherPlaces.{IsApart, IsCounted, Rest, joined, record_here}
+use Rattle.fs_serial.proofs.Places.ClusterPlaces.{IsBetween, all_here, all_joined, apart_of, between, own_home, rest_of}
 use Rattle.fs_serial.proofs.OneServer.Sim.{IsSim}
 use Rattle.fs_serial.proofs.OneServer.SimAsk.{HasFreshHere, ask_sim}
 use Rattle.fs_serial.proofs.OneServer.SimPairs.{ArePairsHere, recall_sim, release_sim, renew_sim}

@@ -40,14 +40,14 @@ use Rattle.fs_serial.specs.Parts.{with_client}
 use Rattle.fs_serial.specs.Settled.{Settled, acknowledged_all, settled_now, told, with_over}
 use Rattle.fs_serial.specs.Sight.{Sight, seen, sight_of}
 use Rattle.fs_serial.specs.World.{Ends, GoesOn, IsThere, after_begun, World, WorldHolds, settled_at, sight_in, with_answer, with_sent, without_question}
-use Rattle.fs_serial.proofs.OtherSessions.Again.{client_same}
+use Rattle.fs_serial.proofs.OtherSessions.ClientChanges.{client_same}
 use Rattle.fs_serial.proofs.Grants.Asks as asks
 use Rattle.fs_serial.proofs.Lists.Counting.{given_by}
 use Rattle.fs_serial.proofs.DecidedEffects.GuardRows.{released_locks, renewed_locks, stand_rows}
 use Rattle.fs_serial.proofs.Returns.LaterSteps.{released_later, renewed_later}
 use Rattle.fs_serial.proofs.DecidedEffects.Owing.{answered_owed, fits_then, others_in, sent_owed}
 use Rattle.fs_serial.proofs.Returns.PairLoops.{ends_backed, rows_released, rows_renewed}
-use Rattle.fs_serial.proofs.ClientMessages.Seats.{settled_none}
+use Rattle.fs_serial.proofs.ClientMessages.SessionStates.{settled_none}
 use Rattle.fs_serial.proofs.ClientMessages.Sending.{asked, goes_of, recall_all, recall_with, world_all_recalled, world_answered}
 use Rattle.fs_serial.proofs.Admission.ShipLoop.{IsShipped, shipped_still}
 use Rattle.fs_serial.proofs.OneServer.ServerSame.{asked_same, ships_same}

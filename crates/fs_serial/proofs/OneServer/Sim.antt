@@ -11,7 +11,7 @@ use Rattle.fs_server.specs.Server.{Stepped}
 use Rattle.fs_server.specs.Step.{recalls_of}
 use Rattle.fs_server.specs.declared.state.Server.{Server}
 use Rattle.fs_serial.specs.Cluster.{in_flight_from}
-use Rattle.fs_serial.proofs.Places.Rest.{IsApart, IsSelf, Rest, joined}
+use Rattle.fs_serial.proofs.Places.OtherPlaces.{IsApart, IsSelf, Rest, joined}
 
 -- the same comes of both, the second server is the first with the rest, and nothing goes to another server
 pub record IsSim (rest : Rest) (s : Server) (big small : Stepped) : Type 0 where

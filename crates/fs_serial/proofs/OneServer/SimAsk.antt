@@ -39,7 +39,7 @@ use Rattle.fs_server.proofs.OneByOne.{AskEnds, Items, answer_at, ask_ends, asks_
 use Rattle.fs_server.proofs.Answered.{IsRowed, blocker_rowed}
 use Rattle.fs_serial.specs.Cluster.{in_flight_from}
 use Rattle.fs_serial.proofs.Places.PutRecords.{gift_home, gift_past}
-use Rattle.fs_serial.proofs.Places.Rest.{IsApart, IsCounted, IsSelf, Rest, answer_here, found_here, itself, joined, lease_counted, lease_joined, mine_still, off_records, record_here, value_here}
+use Rattle.fs_serial.proofs.Places.OtherPlaces.{IsApart, IsCounted, IsSelf, Rest, answer_here, found_here, itself, joined, lease_counted, lease_joined, mine_still, off_records, record_here, value_here}
 use Rattle.fs_serial.proofs.OneServer.Sim.{IsSim, recall_alone}
 
 -- ## A lease in the way

@@ -24,7 +24,7 @@ use Rattle.fs_server.specs.Server.{end_of, is_mine, moved, to_session}
 use Rattle.fs_server.specs.Step.{recall_step, recalled_on, recalls_of}
 use Rattle.fs_server.specs.declared.out.ServerOut.{ServerOut}
 use Rattle.fs_server.specs.declared.state.Server.{Server}
-use Rattle.fs_serial.proofs.Places.Rest.{IsApart, Rest, itself, joined, off_file}
+use Rattle.fs_serial.proofs.Places.OtherPlaces.{IsApart, Rest, itself, joined, off_file}
 use Rattle.fs_serial.proofs.OneServer.Sim.{IsSim, recalls_quiet}
 use Rattle.fs_serial.proofs.Places.Unseen.{any_past, unlocked_past}
 use Rattle.fs_serial.proofs.Returns.LaterSteps.{all_released}

@@ -17,7 +17,7 @@ use Rattle.fs_server.specs.Ships.{Shipping, first_gone, has_row, item_of, ship_f
 use Rattle.fs_server.specs.declared.state.Server.{Server}
 use Rattle.fs_server.proofs.OneByOne.{ShipEnds, each_entry, entry_taken, misplaced, refused, ship_ends}
 use Rattle.fs_serial.proofs.Places.PutRecords.{AreOn}
-use Rattle.fs_serial.proofs.Places.Rest.{IsApart, IsSelf, Rest, effects_apart, effects_joined, itself, joined, off_file}
+use Rattle.fs_serial.proofs.Places.OtherPlaces.{IsApart, IsSelf, Rest, effects_apart, effects_joined, itself, joined, off_file}
 use Rattle.fs_serial.proofs.OneServer.Sim.{IsSim}
 use Rattle.fs_serial.proofs.Places.Unseen.{any_past, other_field}
 

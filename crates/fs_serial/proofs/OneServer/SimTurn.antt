@@ -32,7 +32,7 @@ use Rattle.fs_server.proofs.OneByOne.{Lapsed, each_lapsed, reap_done, reap_kept_
 use Rattle.fs_server.proofs.Answered.{IsRowed}
 use Rattle.fs_serial.specs.Cluster.{in_flight_from}
 use Rattle.fs_serial.proofs.Places.PutRecords.{AreOn, entry_has}
-use Rattle.fs_serial.proofs.Places.Rest.{IsApart, IsSelf, Rest, effects_apart, effects_joined, found_here, itself, joined, off_file, record_here, selves_here}
+use Rattle.fs_serial.proofs.Places.OtherPlaces.{IsApart, IsSelf, Rest, effects_apart, effects_joined, found_here, itself, joined, off_file, record_here, selves_here}
 use Rattle.fs_serial.proofs.OneServer.Sim.{IsSim, recall_quiet}
 use Rattle.fs_serial.proofs.Places.Unseen.{reap_past}
 

@@ -16,7 +16,7 @@ use Rattle.fs_server.specs.declared.state.Server.{Server}
 use Rattle.fs_serial.specs.Cluster.{Cluster, after_step, parcels_of}
 use Rattle.fs_serial.specs.Fresh.{IsMade, made_in, made_by, or_else, root_kind}
 use Rattle.fs_serial.specs.Places.{IsHome, IsSent, OnePlace, PlacesHold, gives_it, places_for, IsUnderway}
-use Rattle.fs_serial.proofs.Places.RestOf.{IsBetween, between}
+use Rattle.fs_serial.proofs.Places.ClusterPlaces.{IsBetween, between}
 use Rattle.fs_serial.proofs.OneServer.SameStep.{IsSameStep}
 
 -- ## What was made stays made

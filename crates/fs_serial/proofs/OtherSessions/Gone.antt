@@ -36,7 +36,7 @@ use Rattle.fs_serial.specs.World.{pushed}
 use Rattle.fs_serial.proofs.Admission.Answered.{answered}
 use Rattle.fs_serial.proofs.Admission.Births.{life_after, makes_there, names_made}
 use Rattle.fs_serial.proofs.Grants.Claims.{AreUnborn, unmade_dead}
-use Rattle.fs_serial.proofs.Lists.Facts.{below_itself, made-append}
+use Rattle.fs_serial.proofs.Lists.Journals.{below_itself, made-append}
 
 -- ## What was made
 

@@ -19,7 +19,7 @@ use Rattle.fs_serial.specs.Pending.{HasLease, UsesHeld}
 use Rattle.fs_serial.specs.Settled.{Lease, Settled}
 use Rattle.fs_serial.specs.Sight.{Sight, IsGiven}
 use Rattle.fs_serial.proofs.LedOperations.LedKept.{each_led, one_entry}
-use Rattle.fs_serial.proofs.Lists.Facts.{each_image}
+use Rattle.fs_serial.proofs.Lists.Journals.{each_image}
 
 abbrev pub retimed : LeaseNo → ℕ → Lease → Lease
 retimed n until l = cond (same_no l.no n) (record l { until = until }) l

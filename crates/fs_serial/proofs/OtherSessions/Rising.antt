@@ -12,7 +12,7 @@ use Rattle.fs_serial.specs.Sight.{Counts, Sight, seen, sight_of}
 use Rattle.fs_serial.specs.World.{World, WorldHolds, settled_at, sight_in}
 use Rattle.fs_serial.proofs.LedOperations.LedKept.{each_led}
 use Rattle.fs_serial.proofs.Lists.Counting.{given_by}
-use Rattle.fs_serial.proofs.OneServer.Going.{goes_still}
+use Rattle.fs_serial.proofs.OneServer.LeaseChanges.{goes_still}
 use Rattle.fs_serial.proofs.OtherSessions.Older.{IsLater, later_among, stood_here}
 use Rattle.fs_serial.proofs.Grants.RowKinds.{rows_lapse}
 use Rattle.fs_serial.proofs.ClientMessages.Sending.{fit_still, goes_of, world_still}

@@ -9,7 +9,7 @@ use Rattle.fs_serial.specs.Parts.{AllHold, SessionHolds, SessionFits, with_clien
 use Rattle.fs_serial.specs.Settled.{Settled}
 use Rattle.fs_serial.specs.Sight.{Sight}
 use Rattle.fs_serial.proofs.Grants.Claims.{NoneAnew, Was, none_anew, one_still, was_there}
-use Rattle.fs_serial.proofs.Lists.Facts.{session_itself}
+use Rattle.fs_serial.proofs.Lists.Journals.{session_itself}
 
 -- what holds of the changed client, and of all others, holds of all
 pub each_session : {X : Type 0} (P : Session → X → Type 0) (by : Session) (d : X) (clients : Session → X) → P by d → ((x : Session) → (by.0 == x.0) ≡ false → P x (clients x)) → (x : Session) → P x (cond (by.0 == x.0) d (clients x))

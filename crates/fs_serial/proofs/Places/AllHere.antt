@@ -10,8 +10,8 @@ use Rattle.fs_server.specs.declared.state.Server.{Server}
 use Rattle.fs_serial.specs.Cluster.{Cluster, parcels_of}
 use Rattle.fs_serial.specs.Joined.{rows_of_all}
 use Rattle.fs_serial.specs.Places.{PlacesHold}
-use Rattle.fs_serial.proofs.Places.Rest.{IsApart, Rest, joined}
-use Rattle.fs_serial.proofs.Places.RestOf.{IsBetween, all_here, apart_of, between, rest_of}
+use Rattle.fs_serial.proofs.Places.OtherPlaces.{IsApart, Rest, joined}
+use Rattle.fs_serial.proofs.Places.ClusterPlaces.{IsBetween, all_here, apart_of, between, rest_of}
 
 module _ (k : ℕ) (c : Cluster) (s : Server) (is : slice_get c.servers k ≡ Some s) (places : PlacesHold c) where
   abbrev all_rows : List Row

@@ -26,7 +26,7 @@ use Rattle.fs_rows.specs.Answer.{answer, answer_by}
 use Rattle.fs_rows.specs.Granted.{with_rows}
 use Rattle.fs_rows.specs.Live.{unlocked_on}
 use Rattle.fs_rows.proofs.Granting.{find_put, lock_put}
-use Rattle.fs_serial.proofs.Lists.Facts.{same_symm}
+use Rattle.fs_serial.proofs.Lists.Journals.{same_symm}
 
 -- ## What is read past rows
 

@@ -43,13 +43,13 @@ use Rattle.fs_serial.specs.Leases.{IsBacked}
 use Rattle.fs_serial.specs.Settled.{Lease, Settled, effects_in, settled_now}
 use Rattle.fs_serial.specs.Sight.{Sight}
 use Rattle.fs_serial.proofs.LedOperations.Cycles.{cycle_named, cycles}
-use Rattle.fs_serial.proofs.Lists.Facts.{known_nodes}
+use Rattle.fs_serial.proofs.Lists.Journals.{known_nodes}
 use Rattle.fs_serial.proofs.OtherSessions.Gone.{lost_in, lost_unread}
 use Rattle.fs_serial.proofs.Replies.Knowing.{IsUseOf, use_from}
 use Rattle.fs_serial.proofs.Replies.Read.{IsReadOf, item_read, nothing_in}
 use Rattle.fs_serial.proofs.Replies.Reply.{IsOfLease, value_seen}
 use Rattle.fs_serial.proofs.Replies.ReplyNext.{of_lease, walked}
-use Rattle.fs_serial.proofs.ClientMessages.Seats.{Seat, seen_at}
+use Rattle.fs_serial.proofs.ClientMessages.SessionStates.{SessionStateHolds, seen_at}
 use Rattle.fs_serial.proofs.ClientMessages.Settling.{settled_log}
 
 -- ## A step that is not led changes nothing
@@ -146,7 +146,7 @@ may_join by (op.Reap file session) h = absurd (cc)
 may_join by o h = refl
 
 -- what the client reads of a delete or a rename is the namespace's
-pub move_read : (skew greatest : ℕ) (s : Sight) (by : Session) (replied : List Item) (c : Client) (up : List ClientMsg) (down : List Answer) (h : Seat skew greatest s by replied c up down) (unled : c.led ≡ None) (o : Op) (r : Reply)
+pub move_read : (skew greatest : ℕ) (s : Sight) (by : Session) (replied : List Item) (c : Client) (up : List ClientMsg) (down : List Answer) (h : SessionStateHolds skew greatest s by replied c up down) (unled : c.led ≡ None) (o : Op) (r : Reply)
     → IsSound (nodes_of s.records) → tells_its_effects o ≡ false → may_ask o ≡ true → is_led o r ≡ false → reply_in c.view c.last o ≡ Some r → c.log ≡ [] → greatest ≤ c.last + skew → IsReadOf (nodes_of s.records) by c.next (item_read c o r)
 move_read skew greatest s by replied c up down h unled o r sound t may n known empty within =
     let values : Field → Value = value_of s.records by in

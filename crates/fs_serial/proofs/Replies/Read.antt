@@ -41,14 +41,14 @@ use Rattle.fs_serial.specs.Sight.{Sight}
 use Rattle.fs_serial.specs.Steps.{IsReplied, IsReadNow}
 use Rattle.fs_serial.proofs.Admission.Answered.{answered, no_reap}
 use Rattle.fs_serial.proofs.ClientMessages.Carried.{GoesOnAs, exchange_still}
-use Rattle.fs_serial.proofs.Lists.Facts.{items-own, made-append, made_before, or_none, serial_push, session_itself}
+use Rattle.fs_serial.proofs.Lists.Journals.{items-own, made-append, made_before, or_none, serial_push, session_itself}
 use Rattle.fs_serial.proofs.Replies.Knowing.{IsUseOf, use_from}
 use Rattle.fs_serial.proofs.OtherSessions.Gone.{lost_in, lost_unread, made_more, telling_later}
 use Rattle.fs_serial.proofs.LedOperations.LedKept.{none_led}
 use Rattle.fs_serial.proofs.Admission.Births.{named_makes}
 use Rattle.fs_serial.proofs.Replies.Reply.{IsNext, IsOfLease, number_more, value_seen}
 use Rattle.fs_serial.proofs.Replies.ReplyNext.{next}
-use Rattle.fs_serial.proofs.ClientMessages.Seats.{Seat, seen_at}
+use Rattle.fs_serial.proofs.ClientMessages.SessionStates.{SessionStateHolds, seen_at}
 use Rattle.fs_serial.proofs.ClientMessages.Settling.{led_all, none_ends, settled_log, settled_next, settled_unled}
 
 -- ## One number more
@@ -110,7 +110,7 @@ plain_is_read m by k = record { session = refl; number = refl; admitted = refl; 
 
 -- ## Its session
 
-module _ (skew greatest : ℕ) (s : Sight) (by : Session) (replied : List Item) (c : Client) (up : List ClientMsg) (down : List Answer) (h : Seat skew greatest s by replied c up down) (unled : c.led ≡ None) where
+module _ (skew greatest : ℕ) (s : Sight) (by : Session) (replied : List Item) (c : Client) (up : List ClientMsg) (down : List Answer) (h : SessionStateHolds skew greatest s by replied c up down) (unled : c.led ≡ None) where
   abbrev d : Settled
   d = seen_at by c down
 
@@ -217,8 +217,8 @@ module _ (skew greatest : ℕ) (s : Sight) (by : Session) (replied : List Item) 
       goes = λ k i z. record { kept = k; among = i; number = refl; leaving = z };
     }
 
-    pub seat_read : Seat skew greatest later by (replied ++ i ∷ []) (with_read c) up down
-    seat_read = record {
+    pub session_read : SessionStateHolds skew greatest later by (replied ++ i ∷ []) (with_read c) up down
+    session_read = record {
       holds = subst (SessionHolds skew greatest later by (replied ++ i ∷ [])) (sym seen) holds;
       fits = subst (SessionFits skew greatest later by) (sym seen) fits;
       client = record { session = h.client.session; viewed = h.client.viewed; pending = h.client.pending; distinct = h.client.distinct; pinned = h.client.pinned; held = h.client.held };

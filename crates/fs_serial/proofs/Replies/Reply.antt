@@ -29,7 +29,7 @@ use Rattle.fs_serial.specs.Sight.{Sight}
 use Rattle.fs_serial.proofs.Admission.Births.{stays_unborn}
 use Rattle.fs_serial.proofs.Grants.Claims.{AreUnborn, NoneAnew}
 use Rattle.fs_serial.proofs.LedOperations.LedKept.{none_led}
-use Rattle.fs_serial.proofs.Lists.Facts.{each_more}
+use Rattle.fs_serial.proofs.Lists.Journals.{each_more}
 use Rattle.fs_serial.proofs.OtherSessions.Gone.{IsLost, MakeAnew, lost_after, lost_in, lost_unread}
 
 -- one entry more

@@ -26,7 +26,7 @@ use Rattle.fs_view.proofs.Changed.{pinned_number}
 use Rattle.fs_serial.specs.Client.{led_before, ClientFits, KeptDistinct, times_used, times_in}
 use Rattle.fs_serial.specs.Settled.{Lease, Settled, lease_in, effects_in, settled_now}
 use Rattle.fs_serial.specs.Pending.{HasLease, UsesHeld}
-use Rattle.fs_serial.proofs.Lists.Facts.{each_image, each_more}
+use Rattle.fs_serial.proofs.Lists.Journals.{each_image, each_more}
 use Rattle.fs_serial.proofs.Replies.Reply.{with_last}
 
 -- ## One use more

@@ -21,10 +21,10 @@ use Rattle.fs_serial.specs.Exchange.{PairFits, PairsFit, pairs_in}
 use Rattle.fs_serial.specs.Parts.{SessionFits}
 use Rattle.fs_serial.specs.Settled.{Lease, Settled, lease_in, lease_with, settled_now}
 use Rattle.fs_serial.specs.Sight.{Sight}
-use Rattle.fs_serial.proofs.Lists.Facts.{each_image}
+use Rattle.fs_serial.proofs.Lists.Journals.{each_image}
 use Rattle.fs_serial.proofs.Replies.Knowing.{In-filter_map}
 use Rattle.fs_serial.proofs.Replies.ReplyPins.{pair_in}
-use Rattle.fs_serial.proofs.ClientMessages.Seats.{Seat, seen_at, idle_due, settled_none}
+use Rattle.fs_serial.proofs.ClientMessages.SessionStates.{SessionStateHolds, seen_at, idle_due, settled_none}
 
 -- a question that names no pairs
 pub no_pairs : (given : ℕ → ℕ) (rows : List Row) (m : ClientMsg) → pairs_in m ≡ [] → PairsFit given rows (m ∷ [])
@@ -37,7 +37,7 @@ no_pairs given rows m none x i p j = elim i as (λ _. PairFits given rows p) [
 lease_pair : (skew greatest : ℕ) (s : Sight) (by : Session) (d : Settled) (l : Lease) → SessionFits skew greatest s by d → In l d.leases → PairFits s.given s.rows (file_of l.field, l.no)
 lease_pair skew greatest s by d l f i = record { known = f.given l i; place = λ r j e. ap file_of (f.matching l i r j e).field }
 
-pub kept_pair : (skew greatest : ℕ) (s : Sight) (by : Session) (replied : List Item) (c : Client) (up : List ClientMsg) (down : List Answer) → c.exchange ≡ None → Seat skew greatest s by replied c up down → (k : ViewLease) → In k c.view.leases → PairFits s.given s.rows (pair_of k)
+pub kept_pair : (skew greatest : ℕ) (s : Sight) (by : Session) (replied : List Item) (c : Client) (up : List ClientMsg) (down : List Answer) → c.exchange ≡ None → SessionStateHolds skew greatest s by replied c up down → (k : ViewLease) → In k c.view.leases → PairFits s.given s.rows (pair_of k)
 kept_pair skew greatest s by replied c up down idle h k i = at k.standing refl
   where
     lease_here : (l : Term) → lease_of k.standing ≡ Some l → PairFits s.given s.rows (file_of l.field, l.no)

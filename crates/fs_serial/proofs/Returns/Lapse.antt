@@ -27,7 +27,7 @@ use Rattle.fs_serial.proofs.ClientMessages.Carried.{GoesOnAs, exchange_still}
 use Rattle.fs_serial.proofs.OtherSessions.Fewer.{HasFewer, settled_fewer, fewer_holds, fewer_fits}
 use Rattle.fs_serial.proofs.Replies.Knowing.{In-filter_map, from-filter_map}
 use Rattle.fs_serial.proofs.Grants.RowKinds.{In-kept}
-use Rattle.fs_serial.proofs.ClientMessages.Seats.{Seat, seen_at}
+use Rattle.fs_serial.proofs.ClientMessages.SessionStates.{SessionStateHolds, seen_at}
 use Rattle.fs_serial.proofs.ClientMessages.Settling.{settled_before}
 
 -- ## Used leases
@@ -135,8 +135,8 @@ module _ (by : Session) (c : Client) (now : ℕ) (f : ClientFits by c) where
   lapse_fewer down = settled_fewer (IsUsed (led_before c.led c.log)) by down (settled_now c) (settled_now then) fewer
 
 -- all that holds of its session
-pub seat_lapse : (skew greatest : ℕ) (s : Sight) (by : Session) (replied : List Item) (c : Client) (up : List ClientMsg) (down : List Answer) (now : ℕ) → Seat skew greatest s by replied c up down → Seat skew greatest s by replied (begun now c) up down
-seat_lapse skew greatest s by replied c up down now h =
+pub session_lapse : (skew greatest : ℕ) (s : Sight) (by : Session) (replied : List Item) (c : Client) (up : List ClientMsg) (down : List Answer) (now : ℕ) → SessionStateHolds skew greatest s by replied c up down → SessionStateHolds skew greatest s by replied (begun now c) up down
+session_lapse skew greatest s by replied c up down now h =
     let g = lapse_fewer by c now h.client down in
     let used = λ (x : Entry) (i : In x (led_before (seen_at by c down).led (seen_at by c down).log)) (u : Use) (j : In u x.uses). let z : IsUsed (led_before c.led c.log) u.no = record { entry = x; logged = settled_before by down (settled_now c) x i; used = u; among = j; number = refl } in z in
     record {

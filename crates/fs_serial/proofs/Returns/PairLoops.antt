@@ -19,7 +19,7 @@ use Rattle.fs_serial.specs.Leases.{IsBacked}
 use Rattle.fs_serial.specs.Settled.{Settled}
 use Rattle.fs_serial.specs.Sight.{Sight}
 use Rattle.fs_serial.specs.World.{Ends, GoesOn}
-use Rattle.fs_serial.proofs.OneServer.Going.{RowsChange, goes_still}
+use Rattle.fs_serial.proofs.OneServer.LeaseChanges.{RowsChange, goes_still}
 use Rattle.fs_serial.proofs.Grants.RowKinds.{ends_no_sooner, ends_then, row_goes, row_renewed, with_rows}
 
 -- ## Renewals

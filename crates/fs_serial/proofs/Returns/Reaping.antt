@@ -41,7 +41,7 @@ use Rattle.fs_serial.specs.Rows.{PromisesKept, RowsShaped}
 use Rattle.fs_serial.specs.Serial.{AreSound, JournalSerial}
 use Rattle.fs_serial.specs.Settled.{Settled}
 use Rattle.fs_serial.specs.Sight.{Counts, Sight, sight_of}
-use Rattle.fs_serial.proofs.Lists.Facts.{items-other, made-append, made_before, serial_push}
+use Rattle.fs_serial.proofs.Lists.Journals.{items-other, made-append, made_before, serial_push}
 use Rattle.fs_serial.proofs.OtherSessions.Gone.{all_anew, made_more, still_gone}
 use Rattle.fs_serial.proofs.OtherSessions.Relied.{relied_fits, relied_holds}
 use Rattle.fs_serial.proofs.Replies.Reply.{number_more}

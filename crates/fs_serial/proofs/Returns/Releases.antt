@@ -34,7 +34,7 @@ use Rattle.fs_serial.proofs.ClientMessages.Heard.{quiet_renewed}
 use Rattle.fs_serial.proofs.Returns.KeptPairs.{kept_pair, releases_pairs}
 use Rattle.fs_serial.proofs.Replies.Knowing.{In-filter_map, from-filter_map}
 use Rattle.fs_serial.proofs.Returns.Lapse.{IsUsed, its_number, used_in}
-use Rattle.fs_serial.proofs.ClientMessages.Seats.{Seat, seen_at, idle_due, settled_none}
+use Rattle.fs_serial.proofs.ClientMessages.SessionStates.{SessionStateHolds, seen_at, idle_due, settled_none}
 use Rattle.fs_serial.proofs.ClientMessages.Sends.{IsAsking, asking_exchange, CameFrom, came_all, goes_all, left_all, all_session, all_pending, all_distinct, pair_numbers_of, unused_returned, led_nothing}
 
 used_pinned : (s : Standing) → 1 ≤ entries_of s → is_pinned s ≡ true
@@ -57,7 +57,7 @@ gone_lease k (Held x) l e t h = absurd (cc)
 gone_lease k (Pinned u) l e t h = absurd (cc)
 gone_lease k (Leaving x) l e t h = absurd (let q : None ≡ Some l = sym (ap (λ s. option_map (lease_with k) (lease_of s)) e) ∙ h in cc)
 
-module _ (skew greatest : ℕ) (s : Sight) (by : Session) (replied : List Item) (c : Client) (up : List ClientMsg) (down : List Answer) (to : ℕ) (ks : List ViewLease) (these : (k : ViewLease) → In k ks → In k (returned c.view)) (idle : c.exchange ≡ None) (h : Seat skew greatest s by replied c up down) where
+module _ (skew greatest : ℕ) (s : Sight) (by : Session) (replied : List Item) (c : Client) (up : List ClientMsg) (down : List Answer) (to : ℕ) (ks : List ViewLease) (these : (k : ViewLease) → In k ks → In k (returned c.view)) (idle : c.exchange ≡ None) (h : SessionStateHolds skew greatest s by replied c up down) where
   abbrev ns : List LeaseNo
   ns = numbers_in ks
 
@@ -146,8 +146,8 @@ module _ (skew greatest : ℕ) (s : Sight) (by : Session) (replied : List Item) 
       goes_back : (k : ViewLease) → In k ks → has_to_go k.recalled k.standing ≡ true
       goes_back k i = passing (λ (k : ViewLease). has_to_go k.recalled k.standing) c.view.leases k (these k i)
 
-  pub seat_releases : Seat skew greatest s by replied then (up ++ Release (map pair_of ks) ∷ []) down
-  seat_releases = record {
+  pub session_releases : SessionStateHolds skew greatest s by replied then (up ++ Release (map pair_of ks) ∷ []) down
+  session_releases = record {
     holds = subst (SessionHolds skew greatest s by replied) (sym later) (fewer_holds skew greatest s by replied (IsUsed (led_before c.led c.log)) (settled_now c) (settled_now then) fewer used (subst (SessionHolds skew greatest s by replied) now h.holds));
     fits = subst (SessionFits skew greatest s by) (sym later) (fewer_fits skew greatest s by replied (IsUsed (led_before c.led c.log)) (settled_now c) (settled_now then) fewer used (subst (SessionFits skew greatest s by) now h.fits));
     client = record {

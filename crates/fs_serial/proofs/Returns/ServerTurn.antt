@@ -28,7 +28,7 @@ use Rattle.fs_serial.specs.Sight.{Counts, Sight, seen, sight_of}
 use Rattle.fs_serial.proofs.DecidedEffects.AdmitPast.{inside_apart}
 use Rattle.fs_serial.specs.World.{Ends, GoesOn, World, WorldHolds, settled_at, with_sent}
 use Rattle.fs_serial.proofs.Lists.Counting.{given_by}
-use Rattle.fs_serial.proofs.OneServer.Going.{carried_still}
+use Rattle.fs_serial.proofs.OneServer.LeaseChanges.{carried_still}
 use Rattle.fs_serial.proofs.OtherSessions.Gone.{made_more}
 use Rattle.fs_serial.proofs.DecidedEffects.GrantsPast.{handles_alike, selves_alike, unused}
 use Rattle.fs_serial.proofs.OtherSessions.Older.{IsLater, later_itself}

@@ -13,7 +13,7 @@ use Rattle.fs_server.specs.Begins.{parts_in}
 use Rattle.fs_txn.specs.Parts.{led_files, part_at, source_of, with_file}
 use Rattle.fs_txn.specs.declared.mode.Mode2.TheVariants.{Plain}
 use Rattle.fs_serial.proofs.Lists.ByPlace.{either_at, front_at, map_at, of_map}
-use Rattle.fs_serial.proofs.Lists.Facts.{same_symm}
+use Rattle.fs_serial.proofs.Lists.Journals.{same_symm}
 
 -- ## Files
 

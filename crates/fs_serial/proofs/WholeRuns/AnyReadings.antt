@@ -42,7 +42,7 @@ use Rattle.fs_serial.proofs.Replies.Answering.{AnswerEnds, answer_ends, as_entry
 use Rattle.fs_serial.proofs.WholeRuns.ClusterClients.{answer_fits, does_plainly, hear_event, plain_event, some_server, turn_event}
 use Rattle.fs_serial.proofs.WholeRuns.ClusterRuns.{cluster_later}
 use Rattle.fs_serial.proofs.WholeRuns.ClusterSteps.{server_keeps}
-use Rattle.fs_serial.proofs.Lists.Facts.{made_in-append, or_assoc, or_none}
+use Rattle.fs_serial.proofs.Lists.Journals.{made_in-append, or_assoc, or_none}
 use Rattle.fs_serial.proofs.WholeRuns.FirstCluster.{first_all}
 use Rattle.fs_serial.proofs.Replies.Read.{no_kind, plain_read, unmade_read}
 use Rattle.fs_serial.proofs.WholeRuns.Strange.{none_strange}

@@ -29,7 +29,7 @@ use Rattle.fs_serial.specs.World.{Ends, World, WorldHolds, is_called, message_in
 use Rattle.fs_serial.specs.World as world
 use Rattle.fs_serial.proofs.ClientMessages.ActMoves.{with_items}
 use Rattle.fs_serial.proofs.OneServer.ClientEvents.{acts_plainly, client_keeps, hear_keeps, never_strange, turn_keeps}
-use Rattle.fs_serial.proofs.Lists.Facts.{session_itself}
+use Rattle.fs_serial.proofs.Lists.Journals.{session_itself}
 use Rattle.fs_serial.proofs.WholeRuns.Planned.{IsPosted, act_posted, hear_posted, plan_addressed, turn_posted}
 use Rattle.fs_serial.proofs.ClientMessages.Reordered.{reordered, with_first}
 use Rattle.fs_serial.proofs.Replies.Read.{plain_read}

@@ -44,7 +44,7 @@ use Rattle.fs_serial.proofs.Returns.Lapsing.{begins, begun_at}
 use Rattle.fs_serial.proofs.LedOperations.LeadEvents.{aborted_holds, led_holds, led_there, put_off_holds, replies_still}
 use Rattle.fs_serial.proofs.LedOperations.LeadSame.{abort_same, commit_same, refuse_same}
 use Rattle.fs_serial.proofs.Moves.Leaving.{move_places, move_same, last_or_before}
-use Rattle.fs_serial.proofs.Returns.LetGo.{all_let_go}
+use Rattle.fs_serial.proofs.Returns.HandlesWithoutRows.{all_let_go}
 use Rattle.fs_serial.proofs.OneServer.SameStep.{IsSameStep, begun_same, turn_same}
 use Rattle.fs_serial.proofs.DecidedEffects.Owing.{none_fits}
 use Rattle.fs_serial.proofs.OneServer.ServerEvents.{begun_keeps}

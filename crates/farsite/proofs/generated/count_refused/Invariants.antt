@@ -3,4 +3,4 @@ use Rattle.farsite.specs.Generated.{refused_in}
 use Rattle.farsite.proofs.generated.count_refused.Given as goal
 
 abbrev pub invariant-loop-o : goal.invariant-loop-o
-invariant-loop-o l = l.numbers.items ++ refused_in (drop l.o-index l.told) ≡ refused_in l.told
+invariant-loop-o l = l.numbers.items ++ refused_in (drop l.o-index l.outcomes) ≡ refused_in l.outcomes

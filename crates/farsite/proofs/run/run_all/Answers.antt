@@ -44,16 +44,16 @@ loop-at-preserved c =
     let e = c.index-events-at.result in
     let after = c.step.new.self in
     let rest = drop (i + 1) items in
-    let r : Run = record { world = w; outcomes = c.loop-at.told } in
-    let pushed : c.push-done.new.self ≡ c.loop-at.told ++ c.in-Ok.outcome ∷ [] = c.in_ok-done-in-None.ensures.ok in
-    let told : c.push-done.new.self ≡ c.loop-at.told ++ (step w e).outcome ∷ [] = pushed ∙ ap (λ (o : Outcome). c.loop-at.told ++ o ∷ []) c.in-Ok.ensures.outcome in
+    let r : Run = record { world = w; outcomes = c.loop-at.outcomes } in
+    let pushed : c.push-done.new.self ≡ c.loop-at.outcomes ++ c.in-Ok.outcome ∷ [] = c.in_ok-done-in-None.ensures.ok in
+    let outcomes : c.push-done.new.self ≡ c.loop-at.outcomes ++ (step w e).outcome ∷ [] = pushed ∙ ap (λ (o : Outcome). c.loop-at.outcomes ++ o ∷ []) c.in-Ok.ensures.outcome in
     let none : (step w e).spent ≡ None = unspent (step w e).spent (λ k h. elim (c.in-Ok.ensures.only k h) [ inl x ↦ no_error _ _ x | inr x ↦ no_error _ _ x ]) in
     let count : c.packet_count.result ≡ length (packets_of after) = c.packet_count.ensures in
     let less : length (packets_of after) ≤ PACKETS = omega (arith, count, c.in-None.ensures.few) in
     let line : i + 1 + 2 ≡ i + 2 + 1 = omega arith in
     record {
       so_far = ap (λ (v : Form). run_on (record { world = v; outcomes = c.push-done.new.self }) rest) c.in-Ok.ensures.world
-          ∙ ap (λ (os : List Outcome). run_on (record { world = (step w e).world; outcomes = os }) rest) told
+          ∙ ap (λ (os : List Outcome). run_on (record { world = (step w e).world; outcomes = os }) rest) outcomes
           ∙ ap (λ (x : Event). run_on (more r x) rest) c.index-events-at.is
           ∙ sym (run_step r items i e c.loop-at-test.true) ∙ c.loop-at.invariant.so_far;
       stop = ap (λ (k : ℕ). stop_in after k rest) line
@@ -62,5 +62,5 @@ loop-at-preserved c =
       fits = fits_further w after items i e c.loop-at-test.true c.in-Ok.ensures.world c.loop-at.invariant.fits;
       carried = λ rest. c.loop-at.invariant.carried (carried_on w after items i e c.loop-at-test.true c.index-events-at.is c.in-Ok.ensures.world c.in-Ok.ensures.carried rest);
       stands = λ now s. c.loop-at.invariant.stands now (stands_on w after items i e c.loop-at-test.true c.index-events-at.is c.in-Ok.ensures.world none less now s);
-      known = λ known. subst (λ (os : List Outcome). NoneHas is_link_strange os) (sym pushed) (one_more is_link_strange c.loop-at.told c.in-Ok.outcome (c.loop-at.invariant.known known) c.in-Ok.ensures.known);
+      known = λ known. subst (λ (os : List Outcome). NoneHas is_link_strange os) (sym pushed) (one_more is_link_strange c.loop-at.outcomes c.in-Ok.outcome (c.loop-at.invariant.known known) c.in-Ok.ensures.known);
     }

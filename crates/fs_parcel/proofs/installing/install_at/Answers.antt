@@ -1,7 +1,7 @@
 use Rattle.std.specs.List.{filter}
 use Rattle.fs_field.specs.Table.{is_live}
 use Rattle.fs_parcel.specs.Rows.{AreRows, in_one_list}
-use Rattle.fs_parcel.proofs.Both.{after, filtered_rows, takes_off, takes_on}
+use Rattle.fs_parcel.proofs.Both.{after, filtered_rows, takes_plain, takes_modes}
 use Rattle.fs_parcel.proofs.Formed.{each_records, fitting, formed_piece}
 use Rattle.fs_parcel.proofs.Installed.{all_rows, came_absent}
 use Rattle.fs_parcel.proofs.OneList.{both_rows}
@@ -16,25 +16,27 @@ pub put_in-requires-clause-absent : goal.put_in-requires-clause-absent
 put_in-requires-clause-absent c =
     came_absent _ _ _ _ c.args.p (fitting c.args.records.now (filter (is_live c.args.now c.args.skew) (in_one_list c.args.rows.now c.args.modes.now)) c.args.map.now c.args.me c.args.p c.requires.fits)
 
-pub put_in-requires-clause-on : goal.put_in-requires-clause-on
-put_in-requires-clause-on c =
+pub put_in-requires-clause-modes : goal.put_in-requires-clause-modes
+put_in-requires-clause-modes c =
     let live = is_live c.args.now c.args.skew in
-    let off = c.args.rows.now in
-    let on = c.args.modes.now in
-    let f = fitting c.args.records.now (filter live (in_one_list off on)) c.args.map.now c.args.me c.args.p c.requires.fits in
-    let rows : AreRows (in_one_list off on) = both_rows off on c.all.ensures.valid c.all-2.ensures.valid c.requires.numbers in
-    let a : AreRows (after live c.args.p.rows off on) = all_rows _ _ _ _ c.args.p f (filtered_rows live (in_one_list off on) rows) in
-    takes_on live c.args.p.rows off on (c.all.ensures.valid, (c.all-2.ensures.valid, rows)) a
+    let plain = c.args.rows.now in
+    let modes = c.args.modes.now in
+    let f = fitting c.args.records.now (filter live (in_one_list plain modes)) c.args.map.now c.args.me c.args.p c.requires.fits in
+    let rows : AreRows (in_one_list plain modes) = both_rows plain modes c.all.ensures.valid c.all-2.ensures.valid c.requires.numbers in
+    let a : AreRows (after live c.args.p.rows plain modes) =
+    all_rows _ _ _ _ c.args.p f (filtered_rows live (in_one_list plain modes) rows) in
+    takes_modes live c.args.p.rows plain modes (c.all.ensures.valid, (c.all-2.ensures.valid, rows)) a
 
-pub put_in-requires-clause-off : goal.put_in-requires-clause-off
-put_in-requires-clause-off c =
+pub put_in-requires-clause-plain : goal.put_in-requires-clause-plain
+put_in-requires-clause-plain c =
     let live = is_live c.args.now c.args.skew in
-    let off = c.args.rows.now in
-    let on = c.args.modes.now in
-    let f = fitting c.args.records.now (filter live (in_one_list off on)) c.args.map.now c.args.me c.args.p c.requires.fits in
-    let rows : AreRows (in_one_list off on) = both_rows off on c.all.ensures.valid c.all-2.ensures.valid c.requires.numbers in
-    let a : AreRows (after live c.args.p.rows off on) = all_rows _ _ _ _ c.args.p f (filtered_rows live (in_one_list off on) rows) in
-    takes_off live c.args.p.rows off on (c.all.ensures.valid, (c.all-2.ensures.valid, rows)) a
+    let plain = c.args.rows.now in
+    let modes = c.args.modes.now in
+    let f = fitting c.args.records.now (filter live (in_one_list plain modes)) c.args.map.now c.args.me c.args.p c.requires.fits in
+    let rows : AreRows (in_one_list plain modes) = both_rows plain modes c.all.ensures.valid c.all-2.ensures.valid c.requires.numbers in
+    let a : AreRows (after live c.args.p.rows plain modes) =
+    all_rows _ _ _ _ c.args.p f (filtered_rows live (in_one_list plain modes) rows) in
+    takes_plain live c.args.p.rows plain modes (c.all.ensures.valid, (c.all-2.ensures.valid, rows)) a
 
 pub put_in-requires-clause-records : goal.put_in-requires-clause-records
 put_in-requires-clause-records c =

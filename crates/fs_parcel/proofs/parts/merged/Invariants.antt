@@ -6,9 +6,9 @@ use Rattle.fs_parcel.proofs.parts.merged.Given as goal
 -- the rows that are taken, and those that are left, are all
 abbrev pub invariant-loop-row : goal.invariant-loop-row
 invariant-loop-row l = record {
-  falling : AreFalling l.falling_off.items l.falling_on.items;
-  all : l.rows ++ both_of l.falling_off.items l.falling_on.items ≡ in_one_list l.fn.off l.fn.on;
+  falling : AreFalling l.falling_plain.items l.falling_modes.items;
+  all : l.rows ++ both_of l.falling_plain.items l.falling_modes.items ≡ in_one_list l.fn.plain l.fn.modes;
 }
 
 abbrev pub decreases-loop-row : goal.decreases-loop-row
-decreases-loop-row l = vec_len l.falling_off + vec_len l.falling_on
+decreases-loop-row l = vec_len l.falling_plain + vec_len l.falling_modes

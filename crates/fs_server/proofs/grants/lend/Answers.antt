@@ -5,7 +5,7 @@ use Rattle.fs_moderows.specs.Answer.{given_row}
 use Rattle.fs_server.proofs.Lending.{next_row, lent-append, lent_more}
 use Rattle.fs_server.specs.Grants.{IsLent, with_leases}
 use Rattle.fs_server.specs.Server.{next_number, end_of}
-use Rattle.fs_server.proofs.lent.lend.Goals as goal
+use Rattle.fs_server.proofs.grants.lend.Goals as goal
 
 added : (c : goal.In_ok-add) → c.add.new.lent.rows ≡ c.args.lent.now.rows ++ next_row c.args.by c.args.field.now c.args.kind c.args.promise c.args.lent.now.rows c.args.at.now ∷ []
 added c =

@@ -9,10 +9,10 @@ use Rattle.fs_server.proofs.all_live.AllLive.at.Goals as goal
 pub returns : goal.returns
 returns c =
     ap (λ rows. in_one_list rows c.live-2.result) c.live.ensures.rows
-    ∙ ap (in_one_list (filter (is_live c.args.now c.args.skew) c.args.off.now)) c.live-2.ensures.rows
-    ∙ sym (filter_with_rows (is_live c.args.now c.args.skew) c.args.on.now c.args.off.now c.requires.ordered)
+    ∙ ap (in_one_list (filter (is_live c.args.now c.args.skew) c.args.plain.now)) c.live-2.ensures.rows
+    ∙ sym (filter_with_rows (is_live c.args.now c.args.skew) c.args.modes.now c.args.plain.now c.requires.ordered)
 
 pub invariant_of-result : goal.invariant_of-result
 invariant_of-result c =
-    let rows : AreRows (in_one_list c.live.result c.live-2.result) = subst AreRows (sym (returns c)) (filtered_rows (is_live c.args.now c.args.skew) (in_one_list c.args.off.now c.args.on.now) c.requires) in
+    let rows : AreRows (in_one_list c.live.result c.live-2.result) = subst AreRows (sym (returns c)) (filtered_rows (is_live c.args.now c.args.skew) (in_one_list c.args.plain.now c.args.modes.now) c.requires) in
     (c.live.ensures.valid, (c.live-2.ensures.valid, rows))

@@ -6,12 +6,12 @@ use Rattle.fs_server.proofs.all_live.AllLive.has.Goals as goal
 
 pub returns-then-has : goal.returns-then-has
 returns-then-has c =
-    let off = c.self.inside.off in
-    let on = c.self.inside.on in
-    rw (← c.self.view_is) (c.if-has.true ∙ sym (any_with_rows (has_no c.args.no) on off ∙ ap (λ b. b || list_any (has_no c.args.no) on) (sym c.has.ensures ∙ c.if-has.true)))
+    let plain = c.self.inside.plain in
+    let modes = c.self.inside.modes in
+    rw (← c.self.view_is) (c.if-has.true ∙ sym (any_with_rows (has_no c.args.no) modes plain ∙ ap (λ b. b || list_any (has_no c.args.no) modes) (sym c.has.ensures ∙ c.if-has.true)))
 
 pub returns-else-has : goal.returns-else-has
 returns-else-has c =
-    let off = c.self.inside.off in
-    let on = c.self.inside.on in
-    rw (← c.self.view_is) (c.has-else-has.ensures ∙ sym (any_with_rows (has_no c.args.no) on off ∙ ap (λ b. b || list_any (has_no c.args.no) on) (sym c.has.ensures ∙ c.if-has.false)))
+    let plain = c.self.inside.plain in
+    let modes = c.self.inside.modes in
+    rw (← c.self.view_is) (c.has-else-has.ensures ∙ sym (any_with_rows (has_no c.args.no) modes plain ∙ ap (λ b. b || list_any (has_no c.args.no) modes) (sym c.has.ensures ∙ c.if-has.false)))

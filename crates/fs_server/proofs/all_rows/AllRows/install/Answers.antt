@@ -14,17 +14,17 @@ install_at-requires-clause-fits c = subst (λ rows. fits c.args.records.now (fil
 pub invariant_of-self : goal.invariant_of-self
 invariant_of-self c =
     let live = is_live c.args.now c.args.skew in
-    let off = c.self.inside.off in
-    let on = c.self.inside.on in
-    let fit : fits c.args.records.now (filter live (in_one_list off on)) c.args.map.now c.args.me c.args.p ≡ true = subst (λ rows. fits c.args.records.now (filter live rows) c.args.map.now c.args.me c.args.p ≡ true) (sym c.self.view_is) c.requires.fits in
-    let rows : AreRows (after live c.args.p.rows off on) = all_rows _ _ _ _ c.args.p (fitting c.args.records.now (filter live (in_one_list off on)) c.args.map.now c.args.me c.args.p fit) (filtered_rows live (in_one_list off on) c.self.invariant.1.1) in
-    either_both c.install_at.result off on _ _ c.install_at.new.rows c.install_at.new.modes c.self.invariant (taken live c.args.p.rows off on c.self.invariant rows) c.install_at.ensures.modes c.install_at.ensures.err_modes c.install_at.ensures.rows c.install_at.ensures.err_rows
+    let plain = c.self.inside.plain in
+    let modes = c.self.inside.modes in
+    let fit : fits c.args.records.now (filter live (in_one_list plain modes)) c.args.map.now c.args.me c.args.p ≡ true = subst (λ rows. fits c.args.records.now (filter live rows) c.args.map.now c.args.me c.args.p ≡ true) (sym c.self.view_is) c.requires.fits in
+    let rows : AreRows (after live c.args.p.rows plain modes) = all_rows _ _ _ _ c.args.p (fitting c.args.records.now (filter live (in_one_list plain modes)) c.args.map.now c.args.me c.args.p fit) (filtered_rows live (in_one_list plain modes) c.self.invariant.1.1) in
+    either_both c.install_at.result plain modes _ _ c.install_at.new.rows c.install_at.new.modes c.self.invariant (taken live c.args.p.rows plain modes c.self.invariant rows) c.install_at.ensures.modes c.install_at.ensures.err_modes c.install_at.ensures.rows c.install_at.ensures.err_rows
 
 pub returns-clause-rows : goal.returns-clause-rows
 returns-clause-rows c =
     let live = is_live c.args.now c.args.skew in
-    let off = c.self.inside.off in
-    let on = c.self.inside.on in
-    let fit : fits c.args.records.now (filter live (in_one_list off on)) c.args.map.now c.args.me c.args.p ≡ true = subst (λ rows. fits c.args.records.now (filter live rows) c.args.map.now c.args.me c.args.p ≡ true) (sym c.self.view_is) c.requires.fits in
-    let rows : AreRows (after live c.args.p.rows off on) = all_rows _ _ _ _ c.args.p (fitting c.args.records.now (filter live (in_one_list off on)) c.args.map.now c.args.me c.args.p fit) (filtered_rows live (in_one_list off on) c.self.invariant.1.1) in
-    rw (← c.self.view_is) (ok_both c.install_at.result _ _ c.install_at.new.rows c.install_at.new.modes _ (takes_all live c.args.p.rows off on c.self.invariant rows) c.install_at.ensures.modes c.install_at.ensures.rows)
+    let plain = c.self.inside.plain in
+    let modes = c.self.inside.modes in
+    let fit : fits c.args.records.now (filter live (in_one_list plain modes)) c.args.map.now c.args.me c.args.p ≡ true = subst (λ rows. fits c.args.records.now (filter live rows) c.args.map.now c.args.me c.args.p ≡ true) (sym c.self.view_is) c.requires.fits in
+    let rows : AreRows (after live c.args.p.rows plain modes) = all_rows _ _ _ _ c.args.p (fitting c.args.records.now (filter live (in_one_list plain modes)) c.args.map.now c.args.me c.args.p fit) (filtered_rows live (in_one_list plain modes) c.self.invariant.1.1) in
+    rw (← c.self.view_is) (ok_both c.install_at.result _ _ c.install_at.new.rows c.install_at.new.modes _ (takes_all live c.args.p.rows plain modes c.self.invariant rows) c.install_at.ensures.modes c.install_at.ensures.rows)

@@ -9,7 +9,7 @@ use Rattle.fs_world.specs.declared.form.Form.TheVariants.{Direct, Served}
 use Rattle.fs_world.specs.Served.{step_of}
 use Rattle.fs_world.specs.Within.{IsWithin}
 use Rattle.fs_world.specs.World.{FitsWorld}
-use Rattle.fs_world.proofs.AtSeat.{told_then}
+use Rattle.fs_world.proofs.AtSession.{outcome_then}
 use Rattle.fs_world.proofs.Carrying.{links_carry}
 use Rattle.fs_world.proofs.NothingUnsent.{answered_plain}
 use Rattle.fs_world.proofs.Within.{was_within}
@@ -23,7 +23,7 @@ returns-clause-known c = elim c.match-self.branch [
       (answered_plain (Direct w.in-Direct.direct) c.args.event.now w.step.result tt w.step.ensures.outcome)
   | in-Served w ↦
       subst (λ (r : Result Outcome CoreError). IfOk r (HasNone is_link_strange)) (sym w.result-is)
-      (answered_plain (Served w.in-Served.served) c.args.event.now w.step-in-Served.result (subst LinksCarry w.in-Served.is (links_carry c.self.inside.form c.self.invariant)) (told_then w.step-in-Served.result w.step-in-Served.new.self (step_of w.in-Served.served c.args.event.now.reading c.args.event.now.what) w.step-in-Served.ensures.done))
+      (answered_plain (Served w.in-Served.served) c.args.event.now w.step-in-Served.result (subst LinksCarry w.in-Served.is (links_carry c.self.inside.form c.self.invariant)) (outcome_then w.step-in-Served.result w.step-in-Served.new.self (step_of w.in-Served.served c.args.event.now.reading c.args.event.now.what) w.step-in-Served.ensures.done))
 ]
 
 pub returns-clause-carried : goal.returns-clause-carried

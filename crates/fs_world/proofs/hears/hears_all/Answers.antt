@@ -1,4 +1,0 @@
-use Rattle.fs_world.proofs.hears.hears_all.Goals as goal
-
-pub returns-else-len-le1-clause-spends : goal.returns-else-len-le1-clause-spends
-returns-else-len-le1-clause-spends c = c.hears_several.ensures.spends c.args.journal.now

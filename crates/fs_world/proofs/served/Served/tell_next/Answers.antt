@@ -1,8 +1,0 @@
-use Rattle.std.proofs.Common.{ℕ, subst}
-use Rattle.fs_world.specs.Calls.{Spends}
-use Rattle.fs_world.specs.Served.{tell}
-use Rattle.fs_world.proofs.served.Served.tell_next.Goals as goal
-
-pub returns-clause-spends : goal.returns-clause-spends
-returns-clause-spends c =
-    subst (λ (k : ℕ). Spends c.tell.result (tell c.args.now k c.args.self.now).spent) c.first_untold-next.ensures c.tell.ensures.spends
