@@ -18,3 +18,4 @@ pub mod Leading
 pub mod Following
 mod Owned
 mod Concluding
+mod Counting
