@@ -84,18 +84,20 @@ own_on number vote l x s w h = goes_more x s (subst IsWhole (sym h) (asked_whole
 -- ## A vote
 
 -- it goes on, and keeps these rows
-pub goes_so : (n : ServerNote) (l x : Leading) (uses : List Use) (s t : Server) (y : Stepped) → x ≡ l → keeping false l.leader.txn uses s ≡ t
-    → y ≡ goes_on n x [] (keeping false x.leader.txn uses s) → y ≡ goes_on n l [] t
-goes_so n l x uses s t y h k e = e ∙ ap (λ (z : Leading). goes_on n z [] (keeping false z.leader.txn uses s)) h ∙ ap (goes_on n l []) k
+pub goes_so : (n : ServerNote) (l x : Leading) (uses : List Use) (send : List (Peer × Msg)) (s t : Server) → x ≡ l → send ≡ [] → keeping false l.leader.txn uses s ≡ t
+    → goes_on n x send (keeping false x.leader.txn uses s) ≡ goes_on n l [] t
+goes_so n l x uses send s t h e k =
+    ap (λ (z : Leading). goes_on n z send (keeping false z.leader.txn uses s)) h ∙ ap₂ (λ (ms : List (Peer × Msg)) (u : Server). goes_on n l ms u) e k
 
-pub counts_so : (number : ℕ) (vote : Vote) (l x : Leading) (uses : List Use) (s : Server) (y : Stepped) → x ≡ with_vote number vote l → uses ≡ []
-    → y ≡ goes_on (note.Waits l.leader.txn) x [] (keeping false x.leader.txn uses s) → y ≡ counts number vote l s
-counts_so number vote l x uses s y h u = goes_so (note.Waits l.leader.txn) (with_vote number vote l) x uses s s y h
+pub counts_so : (number : ℕ) (vote : Vote) (l x : Leading) (uses : List Use) (send : List (Peer × Msg)) (s : Server) → x ≡ with_vote number vote l → uses ≡ []
+    → send ≡ [] → goes_on (note.Waits l.leader.txn) x send (keeping false x.leader.txn uses s) ≡ counts number vote l s
+counts_so number vote l x uses send s h u e = goes_so (note.Waits l.leader.txn) (with_vote number vote l) x uses send s s h e
     (ap (λ (us : List Use). keeping false l.leader.txn us s) u ∙ keeps_none l.leader.txn s)
 
-pub own_so : (number : ℕ) (p : Part) (vote : Vote) (l x : Leading) (uses : List Use) (s : Server) (y : Stepped) → x ≡ asked_at number s.me (with_vote number vote l)
-    → uses ≡ uses_voted vote p.uses → y ≡ goes_on (note.Waits l.leader.txn) x [] (keeping false x.leader.txn uses s) → y ≡ counts_own number p vote l s
-own_so number p vote l x uses s y h u = goes_so (note.Waits l.leader.txn) (asked_at number s.me (with_vote number vote l)) x uses s (after_own_vote l.leader.txn p vote s) y h
+pub own_so : (number : ℕ) (p : Part) (vote : Vote) (l x : Leading) (uses : List Use) (send : List (Peer × Msg)) (s : Server)
+    → x ≡ asked_at number s.me (with_vote number vote l) → uses ≡ uses_voted vote p.uses → send ≡ []
+    → goes_on (note.Waits l.leader.txn) x send (keeping false x.leader.txn uses s) ≡ counts_own number p vote l s
+own_so number p vote l x uses send s h u e = goes_so (note.Waits l.leader.txn) (asked_at number s.me (with_vote number vote l)) x uses send s (after_own_vote l.leader.txn p vote s) h e
     (ap (λ (us : List Use). keeping false l.leader.txn us s) u ∙ keeps_voted vote l.leader.txn p s)
 
 -- ## Another server is asked
