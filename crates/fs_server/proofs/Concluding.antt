@@ -30,7 +30,7 @@ use Rattle.fs_txn.specs.declared.decision.Decision.{Decision}
 use Rattle.fs_txn.specs.declared.leading.Ending.{Ending}
 use Rattle.fs_txn.specs.declared.leading.Leading.{Leading}
 use Rattle.fs_txn.proofs.Locking.{none_locked, used_same}
-use Rattle.fs_server.specs.Concludes.{concludes, end_of_decision, keeps_for, waits}
+use Rattle.fs_server.specs.Concludes.{concludes, end_of_decision, goes_on, keeps_for, waits}
 use Rattle.fs_server.specs.Decided.{CanDecide, stepped_by}
 use Rattle.fs_server.specs.Gathered.{CanGoOn, IsWhole, ends_by, keeping, told_by, waits_by}
 use Rattle.fs_server.specs.Grants.{IsReady}
@@ -162,3 +162,11 @@ waits_can begins n l uses send s d r w few h = subst (λ (x : Decided). CanDecid
   change = tt;
   ready = waits_ready l (keeping begins l.leader.txn uses s) (keeping_ready begins l.leader.txn uses s r few) w;
 })
+
+-- ## It goes on
+
+pub goes_full : (n : ServerNote) (l : Leading) (send : List (Peer × Msg)) (s : Server) → is_full l.leader.votes ≡ true → concludes l send s ≡ goes_on n l send s
+goes_full n l send s h = sym (ap (λ b. cond b (concludes l send s) (waits n l send s)) h)
+
+pub goes_waiting : (n : ServerNote) (l : Leading) (send : List (Peer × Msg)) (s : Server) → is_full l.leader.votes ≡ false → waits n l send s ≡ goes_on n l send s
+goes_waiting n l send s h = sym (ap (λ b. cond b (concludes l send s) (waits n l send s)) h)

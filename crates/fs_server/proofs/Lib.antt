@@ -19,3 +19,4 @@ pub mod Following
 mod Owned
 mod Concluding
 mod Counting
+mod Goes
