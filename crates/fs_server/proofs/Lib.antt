@@ -13,5 +13,10 @@ mod Moving
 mod Losing
 pub mod InOrder
 pub mod Making
+mod Effects
 pub mod Leading
 pub mod Following
+mod Owned
+mod Concluding
+mod Counting
+mod Goes
