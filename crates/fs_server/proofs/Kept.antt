@@ -43,13 +43,13 @@ put_rows row rows new free t = record {
 -- the server with other rows, each with a number that it gave, other records and another map
 pub with_others : (s : Server) (rows : List Row) (records : RecordMap) (map : Owners) → IsReady s → AreGiven s.me s.given rows → AreRows rows → IsReady (record s { rows = rows; records = records; map = map })
 with_others s rows records map r n t = record {
-  server = record { few = r.server.few; skew = r.server.skew; term = r.server.term; last = r.server.last; given = r.server.given; reaps = r.server.reaps; txns = r.server.txns; numbers = n };
+  server = record { few = r.server.few; skew = r.server.skew; term = r.server.term; last = r.server.last; given = r.server.given; reaps = r.server.reaps; txns = r.server.txns; numbers = n; whole = r.server.whole };
   table = t;
 }
 
 -- the server with other records, other rows, each with a number that it gave, and other parts that wait
 pub with_parts : (s : Server) (records : RecordMap) (rows : List Row) (prepared : List Ready) → IsReady s → AreGiven s.me s.given rows → AreRows rows → IsReady (record s { records = records; rows = rows; prepared = prepared })
 with_parts s records rows prepared r n t = record {
-  server = record { few = r.server.few; skew = r.server.skew; term = r.server.term; last = r.server.last; given = r.server.given; reaps = r.server.reaps; txns = r.server.txns; numbers = n };
+  server = record { few = r.server.few; skew = r.server.skew; term = r.server.term; last = r.server.last; given = r.server.given; reaps = r.server.reaps; txns = r.server.txns; numbers = n; whole = r.server.whole };
   table = t;
 }

@@ -15,3 +15,7 @@ pub mod InOrder
 pub mod Making
 pub mod Leading
 pub mod Following
+mod Gathering
+mod LeaderLaws
+mod Splitting
+mod LeadingHere

@@ -1,5 +1,5 @@
 -- What the laws of a leader between servers say.
-use Rattle.std.specs.Prelude.{◌≡◌, ℕ, ◌==◌, Bool, false, List, Option, Some, None, ⊥, slice_get}
+use Rattle.std.specs.Prelude.{◌≡◌, ℕ, ◌==◌, Bool, false, List, Option, Some, None, slice_get}
 use Rattle.std.specs.List.{filter, flat_map, list_any}
 use Rattle.fs_ident.specs.Ident.{same}
 use Rattle.fs_ident.specs.In.{In}
