@@ -77,10 +77,6 @@ vote_kept begins txn us s by p = ap (λ o. cond (is_mine s p.file) (vote_by o No
 abbrev pub with_own : Vote → List Use → ℕ → Gathered → Gathered
 with_own v uses me g = record { votes = g.votes ++ Some v ∷ []; at = g.at ++ me ∷ []; uses = g.uses ++ uses_voted v uses; send = g.send }
 
--- and when another one is asked for
-abbrev pub with_asked : TxnNo → ℕ → Session → Part → ℕ → Gathered → Gathered
-with_asked txn number by p to g = record { votes = g.votes ++ None ∷ []; at = g.at ++ to ∷ []; uses = g.uses; send = g.send ++ to_server to (ask_for txn number by p) ∷ [] }
-
 pub own_gathered : (g : Gathered) (txn : TxnNo) (number : ℕ) (by : Session) (p : Part) (s : Server) → is_mine s p.file ≡ true
     → part_round txn number by p (gathered_by g txn s) ≡ gathered_by (with_own (vote_here s by p) p.uses s.me g) txn s
 own_gathered g txn number by p s h =
@@ -93,10 +89,14 @@ own_gathered g txn number by p s h =
       send = g.send;
     } in x) (voted_locked (vote_here s by p) txn g.uses p.uses s.rows)
 
-pub asked_gathered : (g : Gathered) (txn : TxnNo) (number : ℕ) (by : Session) (p : Part) (s : Server) → is_mine s p.file ≡ false
-    → part_round txn number by p (gathered_by g txn s) ≡ gathered_by (with_asked txn number by p (server_of s.map p.file) g) txn s
-asked_gathered g txn number by p s h =
-    ap (λ b. cond b (own_part txn p (vote_here (keeping true txn g.uses s) by p) (gathered_by g txn s)) (asked_part txn number by p (server_of s.map p.file) (gathered_by g txn s))) h
+-- the vote of a part that is here is counted
+pub own_pushed : (g new : Gathered) (txn : TxnNo) (number : ℕ) (by : Session) (p : Part) (s : Server) (v : Vote) (me : ℕ) → is_mine s p.file ≡ true → v ≡ vote_here s by p → me ≡ s.me
+    → new.votes ≡ g.votes ++ Some v ∷ [] → new.at ≡ g.at ++ me ∷ [] → new.uses ≡ g.uses ++ uses_voted v p.uses → new.send ≡ g.send
+    → gathered_by new txn s ≡ part_round txn number by p (gathered_by g txn s)
+own_pushed g new txn number by p s v me h e k votes at uses send =
+    (λ i. gathered_by (record { votes = votes i; at = at i; uses = uses i; send = send i }) txn s)
+    ∙ (λ i. gathered_by (with_own (e i) p.uses (k i) g) txn s)
+    ∙ sym (own_gathered g txn number by p s h)
 
 -- ## All parts
 

@@ -19,3 +19,4 @@ mod Gathering
 mod LeaderLaws
 mod Splitting
 mod LeadingHere
+mod Beginning
