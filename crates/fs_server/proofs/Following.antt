@@ -190,7 +190,7 @@ stay_locked s from m = at (is_prepared m.txn m.number s.prepared)
     at true h = ap (λ z. cond z s.rows (rows_unlocked m.txn s.rows)) h
     at false h = refl
 
-none_kept : (txn : TxnNo) (rows : List Row) (r : Row) → In r (rows_unlocked txn rows) → is_lock_of txn r.lock ≡ false
+pub none_kept : (txn : TxnNo) (rows : List Row) (r : Row) → In r (rows_unlocked txn rows) → is_lock_of txn r.lock ≡ false
 none_kept txn rows r i =
     let q = In-map (unlocked_row txn) r rows i in
     ap (λ (x : Row). is_lock_of txn x.lock) q.1.1 ∙ at q.0 (is_lock_of txn q.0.lock) refl

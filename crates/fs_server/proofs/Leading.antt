@@ -141,7 +141,7 @@ is_next s txn h = by (nat_lt s.txns 0xffff_ffff_ffff_ffff) h
     by true e = let q : txn_of s ≡ txn = cc in sym q
     by false e = absurd (cc)
 
-few_more : (s : Server) (txn : TxnNo) → next_txn s.me s.txns ≡ Some txn → s.txns + 1 < 2 ^ 64
+pub few_more : (s : Server) (txn : TxnNo) → next_txn s.me s.txns ≡ Some txn → s.txns + 1 < 2 ^ 64
 few_more s txn h = by (nat_lt s.txns 0xffff_ffff_ffff_ffff) refl h
   where
     by : (b : Bool) → nat_lt s.txns 0xffff_ffff_ffff_ffff ≡ b → cond b (Some (txn_of s)) None ≡ Some txn → s.txns + 1 < 2 ^ 64
@@ -190,11 +190,11 @@ led_can s txn d effects removals h r u a ch = record {
 }
 
 -- no number is left for it
-txns_over : (given reaps txns : ℕ) → given < 2 ^ 64 → reaps < 2 ^ 64 → nat_lt txns 0xffff_ffff_ffff_ffff ≡ false
+pub txns_over : (given reaps txns : ℕ) → given < 2 ^ 64 → reaps < 2 ^ 64 → nat_lt txns 0xffff_ffff_ffff_ffff ≡ false
     → cond (nat_le (2 ^ 64) given) (Some Leases) (cond (nat_le (2 ^ 64) reaps) (Some Reaps) (cond (nat_le (2 ^ 64) (txns + 1)) (Some Transactions) None)) ≡ Some Transactions
 txns_over given reaps txns g r t = grind (arith, nat_tests)
 
-spent_at : (s : Server) → next_txn s.me s.txns ≡ None → nat_lt s.txns 0xffff_ffff_ffff_ffff ≡ false
+pub spent_at : (s : Server) → next_txn s.me s.txns ≡ None → nat_lt s.txns 0xffff_ffff_ffff_ffff ≡ false
 spent_at s h = by (nat_lt s.txns 0xffff_ffff_ffff_ffff) h
   where
     by : (b : Bool) → cond b (Some (txn_of s)) None ≡ None → b ≡ false

@@ -20,3 +20,8 @@ mod Owned
 mod Concluding
 mod Counting
 mod Goes
+mod Gathering
+mod LeaderLaws
+mod Splitting
+mod LeadingHere
+mod Beginning
