@@ -14,3 +14,4 @@ pub mod LedPrepared
 pub mod OthersKeep
 pub mod LedDecided
 pub mod LedConcluded
+pub mod LedDone

@@ -24,7 +24,7 @@ use Rattle.fs_msg.specs.declared.peer_msg.PeerMsg.{PeerMsg}
 use Rattle.fs_server.specs.declared.state.Server.{Server}
 use Rattle.fs_txn.specs.Leading.{ending_of, leading_of, stage_in}
 use Rattle.fs_txn.specs.Ready.{is_part}
-use Rattle.fs_txn.specs.Stages.{Desks, IsAlone, IsNowhere, IsStage, Key, Stage, StagesHold, Told, Wanted, Word, is_between, is_of, same_key, told_of, word_from, word_to}
+use Rattle.fs_txn.specs.Stages.{Desks, IsAlone, IsHeldAt, IsNowhere, IsStage, IsVoted, Key, Stage, StagesHold, Told, Wanted, Word, is_between, is_of, is_yes, same_key, told_of, word_from, word_to}
 use Rattle.fs_txn.specs.Stages.IsAsking.{coming, refused, granted}
 use Rattle.fs_txn.specs.Stages.IsEnding.{decided, done}
 use Rattle.fs_txn.specs.Stages.Stage.{Unknown, Asked, Counted, Awaited}
@@ -215,6 +215,32 @@ stand_alike d e q h key =
     (subst (λ x. IsStage key (d.parts key) x (λ k. e.prepared k key) (told_of key e.telling)) (sym (q.stages key))
     (subst (λ x. IsStage key (d.parts key) (d.stages key) x (told_of key e.telling)) ready
     (subst (λ x. IsStage key (d.parts key) (d.stages key) (λ k. d.prepared k key) (told_of key x)) (sym q.telling) (h key))))
+
+apart_from : (p k : ℕ) → (p == k) ≡ false → k ≢ p
+apart_from p k e q = eqb-false p k e (sym q)
+
+-- the leader itself keeps none of its parts ready
+pub not_at_home : (key : Key) (w : Wanted) (st : Stage) (prepared : ℕ → Option Wanted) (words : List Told)
+    → IsStage key w st prepared words → prepared key.txn.server ≡ None
+not_at_home key w Unknown prepared words i = i.1 key.txn.server
+not_at_home key w (Asked p) prepared words i = elim i.1 as (λ _. prepared key.txn.server ≡ None) [
+  | coming e none ↦ none key.txn.server
+  | refused v against e none ↦ none key.txn.server
+  | granted e alone ↦ alone.others key.txn.server (apart_from p key.txn.server i.0)
+]
+not_at_home key w (Counted p v) prepared words i = by (is_yes v) i.1
+  where
+    held : (b : Bool) → (p == key.txn.server) ≡ b → IsHeldAt b p w prepared → prepared key.txn.server ≡ None
+    held true e none = none key.txn.server
+    held false e alone = alone.others key.txn.server (apart_from p key.txn.server e)
+
+    by : (b : Bool) → IsVoted b key p w prepared → prepared key.txn.server ≡ None
+    by false none = none key.txn.server
+    by true h = held (p == key.txn.server) refl h
+not_at_home key w (Awaited p) prepared words i = elim i.1 as (λ _. prepared key.txn.server ≡ None) [
+  | decided es e alone ↦ alone.others key.txn.server (apart_from p key.txn.server i.0)
+  | done e none ↦ none key.txn.server
+]
 
 -- no two parts of a transaction are on one file
 abbrev pub FilesApart : (Key → Wanted) → (Key → Stage) → Type 0
