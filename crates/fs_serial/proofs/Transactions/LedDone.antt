@@ -42,16 +42,21 @@ use Rattle.fs_serial.proofs.Transactions.Tables.{In_some, ending_kept, ending_ot
 
 -- ## Commits whose rows stay locked
 
-kept_as : (txn : TxnNo) (by : Session) (z : Kept) (ks : List Kept) → z.txn ≡ txn → z.session ≡ by → In (let k : Kept = record { txn = txn; session = by } in k) ks → In z ks
-kept_as txn by z ks e f i = subst (λ y. In y ks) (ap₂ (λ (t : TxnNo) (u : Session). let k : Kept = record { txn = t; session = u } in k) (sym e) (sym f)) i
+kept_as : (txn : TxnNo) (by : Session) (z : Kept) (ks : List Kept) → z.txn ≡ txn → z.session ≡ by
+    → In (let k : Kept = record { txn = txn; session = by } in k) ks → In z ks
+kept_as txn by z ks e f i =
+    subst (λ y. In y ks) (ap₂ (λ (t : TxnNo) (u : Session). let k : Kept = record { txn = t; session = u } in k) (sym e) (sym f)) i
 
-pub kept_still : (x : Ending) (xs : List Ending) (z : Kept) → In z (kept_by xs) → same_txn z.txn x.txn ≡ false → In z (kept_by (with_ending x xs))
+pub kept_still : (x : Ending) (xs : List Ending) (z : Kept) → In z (kept_by xs) → same_txn z.txn x.txn ≡ false
+    → In z (kept_by (with_ending x xs))
 kept_still x xs z i off =
     let q = in_kept xs z i in
     let apart : same_txn (q.0).txn x.txn ≡ false = ap (λ t. same_txn t x.txn) (sym q.1.1.1.0) ∙ off in
-    kept_as (q.0).txn (q.0).session z (kept_by (with_ending x xs)) q.1.1.1.0 q.1.1.1.1 (kept_there q.0 (with_ending x xs) (ending_kept x xs q.0 q.1.0 apart) q.1.1.0)
+    kept_as (q.0).txn (q.0).session z (kept_by (with_ending x xs)) q.1.1.1.0 q.1.1.1.1
+        (kept_there q.0 (with_ending x xs) (ending_kept x xs q.0 q.1.0 apart) q.1.1.0)
 
-pub kept_put : (x : Ending) (xs : List Ending) → is_some (slice_get x.awaits 0) ≡ true → keeps_till_done x.end ≡ true → In (let k : Kept = record { txn = x.txn; session = x.session } in k) (kept_by (with_ending x xs))
+pub kept_put : (x : Ending) (xs : List Ending) → is_some (slice_get x.awaits 0) ≡ true → keeps_till_done x.end ≡ true
+    → In (let k : Kept = record { txn = x.txn; session = x.session } in k) (kept_by (with_ending x xs))
 kept_put x xs some keeps = kept_there x (with_ending x xs) (ending_there x xs some) keeps
 
 -- ## Parts that are not done
@@ -63,7 +68,8 @@ stage_gone : (n : ℕ) (xs : List (ℕ × ℕ)) → awaited_stage n (left_of n x
 stage_gone n [] = refl
 stage_gone n (x ∷ xs) = at (x.0 == n) refl (stage_gone n xs)
   where
-    at : (b : Bool) → (x.0 == n) ≡ b → awaited_stage n (left_of n xs) ≡ Unknown → awaited_stage n (cond (not b) (x ∷ left_of n xs) (left_of n xs)) ≡ Unknown
+    at : (b : Bool) → (x.0 == n) ≡ b → awaited_stage n (left_of n xs) ≡ Unknown
+        → awaited_stage n (cond (not b) (x ∷ left_of n xs) (left_of n xs)) ≡ Unknown
     at true t rest = rest
     at false t rest = ap (λ b. cond b (Awaited x.1) (awaited_stage n (left_of n xs))) t ∙ rest
 
@@ -71,11 +77,13 @@ stage_left : (n i : ℕ) (xs : List (ℕ × ℕ)) → (i == n) ≡ false → awa
 stage_left n i [] off = refl
 stage_left n i (x ∷ xs) off = at (x.0 == n) refl (stage_left n i xs off)
   where
-    at : (b : Bool) → (x.0 == n) ≡ b → awaited_stage i (left_of n xs) ≡ awaited_stage i xs → awaited_stage i (cond (not b) (x ∷ left_of n xs) (left_of n xs)) ≡ awaited_stage i (x ∷ xs)
+    at : (b : Bool) → (x.0 == n) ≡ b → awaited_stage i (left_of n xs) ≡ awaited_stage i xs
+        → awaited_stage i (cond (not b) (x ∷ left_of n xs) (left_of n xs)) ≡ awaited_stage i (x ∷ xs)
     at true t rest = rest ∙ sym (ap (λ b. cond b (Awaited x.1) (awaited_stage i xs)) (differs_too x.0 n i t off))
     at false t rest = ap (λ z. cond (x.0 == i) (Awaited x.1) z) rest
 
-module _ (k from : ℕ) (c : Cluster) (s : Server) (at : slice_get c.servers k ≡ Some s) (held : LedHolds c) (me : s.me ≡ k) (m : DoneMsg) (comes : Comes k from c (peer.Done m)) where
+module _ (k from : ℕ) (c : Cluster) (s : Server) (at : slice_get c.servers k ≡ Some s) (held : LedHolds c) (me : s.me ≡ k) (m : DoneMsg)
+    (comes : Comes k from c (peer.Done m)) where
   abbrev key : Key
   key = key_of m.txn m.number
 
@@ -115,18 +123,22 @@ module _ (k from : ℕ) (c : Cluster) (s : Server) (at : slice_get c.servers k �
   none_led = ap (λ t. leading_of t s.leading) (sym its_txn) ∙ x_holds.only
 
   heard_it : IsTakenWord from k c.in_flight word
-  heard_it = heard_as from k (peer.Done m) (key, Done) c.in_flight word refl comes (ap (λ n. let w : Told = record { from = from; to = n; key = key; word = Done } in w) here.leader)
+  heard_it =
+      heard_as from k (peer.Done m) (key, Done) c.in_flight word refl comes
+      (ap (λ n. let w : Told = record { from = from; to = n; key = key; word = Done } in w) here.leader)
 
   led_apart : (l : Leading) → In l s.leading → same_txn l.leader.txn x.txn ≡ false
   led_apart l i = elim (same_txn l.leader.txn x.txn) as (λ b. same_txn l.leader.txn x.txn ≡ b → b ≡ false) [
-    | true ↦ λ e. let wrong : Some l ≡ None = sym (held.leading s s_there l i).one ∙ ap (λ t. leading_of t s.leading) (txn_is l.leader.txn x.txn e) ∙ x_holds.only in absurd (cc)
+    | true ↦ λ e. let wrong : Some l ≡ None =
+        sym (held.leading s s_there l i).one ∙ ap (λ t. leading_of t s.leading) (txn_is l.leader.txn x.txn e) ∙ x_holds.only in absurd (cc)
     | false ↦ λ e. refl
   ] refl
 
   stage_then : (n : ℕ) → stage_in n None (ending_of m.txn (with_ending left s.ending)) ≡ awaited_stage n left.awaits
   stage_then n = of left.awaits refl
     where
-      of : (ys : List (ℕ × ℕ)) → left.awaits ≡ ys → stage_in n None (ending_of m.txn (with_ending left s.ending)) ≡ awaited_stage n left.awaits
+      of : (ys : List (ℕ × ℕ)) → left.awaits ≡ ys → stage_in n None (ending_of m.txn (with_ending left s.ending))
+          ≡ awaited_stage n left.awaits
       of [] e =
           ap (λ t. stage_in n None (ending_of t (with_ending left s.ending))) (sym its_txn)
           ∙ ap (stage_in n None) (ending_over left s.ending (ap (λ ys. is_some (slice_get ys 0)) e)) ∙ sym (ap (awaited_stage n) e)
@@ -136,7 +148,8 @@ module _ (k from : ℕ) (c : Cluster) (s : Server) (at : slice_get c.servers k �
 
   -- ## A step that does it
 
-  module _ (z : Stepped) (here_still : z.server.me ≡ s.me) (txns : s.txns ≤ z.server.txns) (leads : z.server.leading ≡ s.leading) (ends : z.server.ending ≡ with_ending left s.ending)
+  module _ (z : Stepped) (here_still : z.server.me ≡ s.me) (txns : s.txns ≤ z.server.txns) (leads : z.server.leading ≡ s.leading)
+      (ends : z.server.ending ≡ with_ending left s.ending)
       (waits : z.server.prepared ≡ s.prepared) (quiet : in_flight_from k z.out.send ≡ []) where
     abbrev t : Server
     t = z.server
@@ -145,7 +158,10 @@ module _ (k from : ℕ) (c : Cluster) (s : Server) (at : slice_get c.servers k �
     after = then_of k from c (peer.Done m) z
 
     telling_after : telling_of after.in_flight ≡ taken word (telling_of c.in_flight)
-    telling_after = ap telling_of (ap (λ xs. without_first (is_between from k) c.in_flight ++ xs) quiet ∙ append-nil (without_first (is_between from k) c.in_flight)) ∙ heard_it.left
+    telling_after =
+        ap telling_of
+        (ap (λ xs. without_first (is_between from k) c.in_flight ++ xs) quiet ∙ append-nil (without_first (is_between from k) c.in_flight))
+        ∙ heard_it.left
 
     abbrev stage_here : Server → Key → Stage
     stage_here u o = stage_in o.part (leading_of o.txn u.leading) (ending_of o.txn u.ending)
@@ -170,7 +186,8 @@ module _ (k from : ℕ) (c : Cluster) (s : Server) (at : slice_get c.servers k �
       where
         by : (a b : Bool) → same_txn o.txn m.txn ≡ a → (o.part == m.number) ≡ b → stage_here t o ≡ with_key key Unknown (stage_here s) o
         by true true e f =
-            its_stage o (txn_is o.txn m.txn e) ∙ ap (λ n. awaited_stage n left.awaits) (eqb-true o.part m.number f) ∙ stage_gone m.number x.awaits
+            its_stage o (txn_is o.txn m.txn e) ∙ ap (λ n. awaited_stage n left.awaits) (eqb-true o.part m.number f)
+                ∙ stage_gone m.number x.awaits
             ∙ sym (ap (λ b. cond b Unknown (stage_here s o)) (joined _ _ e f))
         by true false e f =
             let off : same_key o key ≡ false = ap (λ b. b && (o.part == m.number)) e ∙ f in
@@ -198,7 +215,8 @@ module _ (k from : ℕ) (c : Cluster) (s : Server) (at : slice_get c.servers k �
     over e o mine own = stage_is c.servers k s t at o mine ∙ its_stage o (txn_is o.txn x.txn own ∙ its_txn) ∙ ap (awaited_stage o.part) e
 
     older : (o : Key) → stage_of_key after.servers o ≢ Unknown → stage_of_key c.servers o ≢ Unknown
-    older o n e = n (stages_after o ∙ elim (same_key o key) as (λ b. cond b Unknown (stage_of_key c.servers o) ≡ Unknown) [ true ↦ refl | false ↦ e ])
+    older o n e =
+        n (stages_after o ∙ elim (same_key o key) as (λ b. cond b Unknown (stage_of_key c.servers o) ≡ Unknown) [ true ↦ refl | false ↦ e ])
 
     client : (y : Session) → (after.lines y).client ≡ (c.lines y).client
     client y = sent_client k z.out.send c.lines y
@@ -207,7 +225,8 @@ module _ (k from : ℕ) (c : Cluster) (s : Server) (at : slice_get c.servers k �
     leading_then_all l i =
         let j : In l s.leading = subst (In l) leads i in
         let h = held.leading s s_there l j in
-        leading_waits c.lines after.lines t held.parts l (λ e. waits_alike c.lines after.lines l.leader.session t.me e (client l.leader.session))
+        leading_waits c.lines after.lines t held.parts l
+            (λ e. waits_alike c.lines after.lines l.leader.session t.me e (client l.leader.session))
         (leading_then c.lines s t held.parts here_still txns l (ap (leading_of l.leader.txn) leads ∙ h.one)
         (ap (ending_of l.leader.txn) ends ∙ ending_other left l.leader.txn s.ending (led_apart l j) ∙ h.only) h)
 
@@ -218,7 +237,8 @@ module _ (k from : ℕ) (c : Cluster) (s : Server) (at : slice_get c.servers k �
       one = ap (ending_of left.txn) ends ∙ ending_set left s.ending some;
       only = ap (leading_of x.txn) leads ∙ x_holds.only;
       waits = λ e. let wrong : true ≡ false = sym some ∙ ap (λ ys. is_some (slice_get ys 0)) e in absurd (cc);
-      awaited = λ n i. let w = x_holds.awaited n (In-filter (λ (y : ℕ × ℕ). not (y.0 == m.number)) n x.awaits i) in (subst (λ u. (n.1 == u) ≡ false) (sym here_still) w.0, w.1);
+      awaited = λ n i. let w = x_holds.awaited n (In-filter (λ (y : ℕ × ℕ). not (y.0 == m.number)) n x.awaits i) in
+          (subst (λ u. (n.1 == u) ≡ false) (sym here_still) w.0, w.1);
       led = x_holds.led;
       client = subst (λ n. IsLedBy c.lines x.session n x_holds.led) (sym here_still) x_holds.client;
       fits = x_holds.fits;
@@ -229,26 +249,34 @@ module _ (k from : ℕ) (c : Cluster) (s : Server) (at : slice_get c.servers k �
       | inl e ↦ subst (λ u. IsEnded c.lines t held.parts u) (sym e.0) (left_holds e.1)
       | inr w ↦
           let h = held.ending s s_there y w.0 in
-          ended_then c.lines s t held.parts here_still txns y (ap (ending_of y.txn) ends ∙ ending_other left y.txn s.ending w.1 ∙ h.one) (ap (leading_of y.txn) leads ∙ h.only) h
+          ended_then c.lines s t held.parts here_still txns y (ap (ending_of y.txn) ends ∙ ending_other left y.txn s.ending w.1 ∙ h.one)
+              (ap (leading_of y.txn) leads ∙ h.only) h
     ]
 
     ending_then_all : (y : Ending) → In y t.ending → IsEnded after.lines t held.parts y
-    ending_then_all y i = ended_waits c.lines after.lines t held.parts y (λ e. waits_alike c.lines after.lines y.session t.me e (client y.session)) (ended_by y i)
+    ending_then_all y i =
+        ended_waits c.lines after.lines t held.parts y (λ e. waits_alike c.lines after.lines y.session t.me e (client y.session))
+        (ended_by y i)
 
-    told_before : (y : Key) (j : ℕ) (effects : List Effect) → In (word_to y j (Decide effects)) (telling_of after.in_flight) → In (word_to y j (Decide effects)) (telling_of c.in_flight)
-    told_before y j effects i = taken_In word (word_to y j (Decide effects)) (telling_of c.in_flight) (subst (In (word_to y j (Decide effects))) telling_after i)
+    told_before : (y : Key) (j : ℕ) (effects : List Effect) → In (word_to y j (Decide effects)) (telling_of after.in_flight)
+        → In (word_to y j (Decide effects)) (telling_of c.in_flight)
+    told_before y j effects i =
+        taken_In word (word_to y j (Decide effects)) (telling_of c.in_flight) (subst (In (word_to y j (Decide effects))) telling_after i)
 
     -- where the rows of all that is told stay locked
     together : LocksHold t.rows (said_at t) (kept_at t)
-        → ((o : Key) → (o.txn.server == k) ≡ true → stage_of_key after.servers o ≢ Unknown → (r : Row) → In r s.rows → r.lock ≡ Some o.txn → In r t.rows) → LedHolds after
+        → ((o : Key) → (o.txn.server == k) ≡ true → stage_of_key after.servers o ≢ Unknown → (r : Row) → In r s.rows → r.lock ≡ Some o.txn
+            → In r t.rows) → LedHolds after
     together locks rows = record {
       parts = held.parts;
       stages = stand_then;
       leading = each_after (λ u. (l : Leading) → In l u.leading → IsLeading after.lines u held.parts l) c.servers k t
-          (λ u i l j. leading_waits c.lines after.lines u held.parts l (λ e. waits_alike c.lines after.lines l.leader.session u.me e (client l.leader.session)) (held.leading u i l j))
+          (λ u i l j. leading_waits c.lines after.lines u held.parts l
+              (λ e. waits_alike c.lines after.lines l.leader.session u.me e (client l.leader.session)) (held.leading u i l j))
           leading_then_all;
       ending = each_after (λ u. (y : Ending) → In y u.ending → IsEnded after.lines u held.parts y) c.servers k t
-          (λ u i y j. ended_waits c.lines after.lines u held.parts y (λ e. waits_alike c.lines after.lines y.session u.me e (client y.session)) (held.ending u i y j))
+          (λ u i y j. ended_waits c.lines after.lines u held.parts y
+              (λ e. waits_alike c.lines after.lines y.session u.me e (client y.session)) (held.ending u i y j))
           ending_then_all;
       ready = each_after (λ u. (y : Ready) → In y u.prepared → find (is_part y.txn y.number) u.prepared ≡ Some y) c.servers k t held.ready
           (λ y i. subst (λ ys. find (is_part y.txn y.number) ys ≡ Some y) (sym waits) (held.ready s s_there y (subst (In y) waits i)));
@@ -269,8 +297,10 @@ module _ (k from : ℕ) (c : Cluster) (s : Server) (at : slice_get c.servers k �
         let o : Key = key_of y.txn y.number in
         let home : y.txn.server ≡ k = ap (λ (t : TxnNo). t.server) (txn_is y.txn x.txn e) ∙ x_holds.own ∙ me in
         let ready : prepared_in c.servers k o ≡ Some (wanted_of y) =
-            ap (λ u. option_map wanted_of (find (is_part y.txn y.number) (ready_at u))) at ∙ ap (option_map wanted_of) (held.ready s s_there y i) in
-        let none : prepared_in c.servers y.txn.server o ≡ None = not_at_home o (held.parts o) (stage_of_key c.servers o) (λ j. prepared_in c.servers j o) _ (held.stages o) in
+            ap (λ u. option_map wanted_of (find (is_part y.txn y.number) (ready_at u))) at
+                ∙ ap (option_map wanted_of) (held.ready s s_there y i) in
+        let none : prepared_in c.servers y.txn.server o ≡ None =
+            not_at_home o (held.parts o) (stage_of_key c.servers o) (λ j. prepared_in c.servers j o) _ (held.stages o) in
         let wrong : Some (wanted_of y) ≡ None = sym ready ∙ ap (λ j. prepared_in c.servers j o) (sym home) ∙ none in
         absurd (cc)
     | false ↦ λ e. refl
@@ -293,24 +323,30 @@ module _ (k from : ℕ) (c : Cluster) (s : Server) (at : slice_get c.servers k �
   kept_on some z i = elim (same_txn z.txn x.txn) as (λ b. same_txn z.txn x.txn ≡ b → In z (kept_by (with_ending left s.ending))) [
     | true ↦ λ e.
         let w = in_kept s.ending z i in
-        let found : Some w.0 ≡ Some x = sym (held.ending s s_there w.0 w.1.0).one ∙ ap (λ t. ending_of t s.ending) (sym w.1.1.1.0 ∙ txn_is z.txn x.txn e ∙ its_txn) ∙ q.is in
+        let found : Some w.0 ≡ Some x =
+            sym (held.ending s s_there w.0 w.1.0).one ∙ ap (λ t. ending_of t s.ending) (sym w.1.1.1.0 ∙ txn_is z.txn x.txn e ∙ its_txn)
+            ∙ q.is in
         let same : w.0 ≡ x = cc in
         let keeps : keeps_till_done left.end ≡ true = ap (λ (y : Ending). keeps_till_done y.end) (sym same) ∙ w.1.1.0 in
-        kept_as x.txn x.session z (kept_by (with_ending left s.ending)) (txn_is z.txn x.txn e) (w.1.1.1.1 ∙ ap (λ (y : Ending). y.session) same) (kept_put left s.ending some keeps)
+        kept_as x.txn x.session z (kept_by (with_ending left s.ending)) (txn_is z.txn x.txn e)
+            (w.1.1.1.1 ∙ ap (λ (y : Ending). y.session) same) (kept_put left s.ending some keeps)
     | false ↦ λ e. kept_still left s.ending z i e
   ] refl
 
   led_by : (ys : List (ℕ × ℕ)) → left.awaits ≡ ys → LedHolds (then_of k from c (peer.Done m) (done_with left ys s))
   led_by [] e =
       together (done_with left [] s) refl (omega arith) refl refl refl refl
-      (subst (λ ks. LocksHold (rows_unlocked x.txn s.rows) (said_at s) ks) (sym (kept_over e)) (last_keeps s.rows (said_at s) (kept_at s) x.txn (held.locks s s_there) none_said))
-      (λ o own known r i l. unlocked_stay x.txn s.rows r o.txn i l (elim (same_txn o.txn x.txn) as (λ b. same_txn o.txn x.txn ≡ b → b ≡ false) [
+      (subst (λ ks. LocksHold (rows_unlocked x.txn s.rows) (said_at s) ks) (sym (kept_over e))
+          (last_keeps s.rows (said_at s) (kept_at s) x.txn (held.locks s s_there) none_said))
+      (λ o own known r i l. unlocked_stay x.txn s.rows r o.txn i l
+          (elim (same_txn o.txn x.txn) as (λ b. same_txn o.txn x.txn ≡ b → b ≡ false) [
         | true ↦ λ its. absurd (known (over (done_with left [] s) refl (omega arith) refl refl refl refl e o own its))
         | false ↦ λ its. refl
       ] refl))
   led_by (y ∷ ys) e =
       together (done_with left (y ∷ ys) s) refl (omega arith) refl refl refl refl
-      (locks_alike s.rows (said_at s) (said_at s) (kept_at s) (kept_by (with_ending left s.ending)) (λ z i. i) (λ z i. i) (kept_on (ap (λ zs. is_some (slice_get zs 0)) e)) (held.locks s s_there))
+      (locks_alike s.rows (said_at s) (said_at s) (kept_at s) (kept_by (with_ending left s.ending)) (λ z i. i) (λ z i. i)
+          (kept_on (ap (λ zs. is_some (slice_get zs 0)) e)) (held.locks s s_there))
       (λ o own known r i l. i)
 
   pub led_done : LedHolds (then_of k from c (peer.Done m) (done_step m s))
