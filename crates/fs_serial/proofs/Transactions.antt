@@ -20,3 +20,4 @@ pub mod LocksLeft
 pub mod LeavesLed
 pub mod LedDecided
 pub mod LedConcluded
+pub mod LedDone
