@@ -1,4 +1,4 @@
--- Words of transactions between servers, and what they keep.
+-- Transactions between servers, while their words are on their way.
 pub mod Desks
 pub mod DecidedStill
 pub mod Tables
@@ -10,4 +10,12 @@ pub mod RoundsStages
 pub mod PartsApart
 pub mod LedCounted
 pub mod LedBegun
+pub mod Decisions
 pub mod OneOfSession
+pub mod AwaitedWords
+pub mod OwnersOfLocks
+pub mod LedPrepared
+pub mod OthersKeep
+pub mod LedDecided
+pub mod LedConcluded
+pub mod LedDone

@@ -23,6 +23,7 @@ pub mod Cluster
 pub mod Places
 pub mod Words
 pub mod Leading
+pub mod Conclusions
 pub mod Owed
 pub mod Seen
 pub mod Runs
