@@ -19,7 +19,8 @@ other_at [] x (suc n) h = refl
 other_at (y ∷ ys) x zero h = refl
 other_at (y ∷ ys) x (suc n) h = other_at ys x n (λ e. h (ap suc e))
 
-pub either_at : {X : Type 0} (xs : List X) (x y : X) (n : ℕ) → slice_get (xs ++ x ∷ []) n ≡ Some y → (slice_get xs n ≡ Some y) ⊎ ((n ≡ length xs) × (y ≡ x))
+pub either_at : {X : Type 0} (xs : List X) (x y : X) (n : ℕ) → slice_get (xs ++ x ∷ []) n ≡ Some y
+    → (slice_get xs n ≡ Some y) ⊎ ((n ≡ length xs) × (y ≡ x))
 either_at [] x y zero h = let same : x ≡ y = cc in inr (refl, sym same)
 either_at [] x y (suc n) h = absurd (cc h)
 either_at (z ∷ zs) x y zero h = inl h
@@ -36,7 +37,8 @@ front_at (z ∷ zs) ys (suc n) x h = front_at zs ys n x h
 -- ## Two lists
 
 -- of two lists of one length both have an item at the place
-pub both_at : {X Y : Type 0} (xs : List X) (ys : List Y) (n : ℕ) (x : X) → length xs ≡ length ys → slice_get xs n ≡ Some x → (y : Y) × (slice_get ys n ≡ Some y)
+pub both_at : {X Y : Type 0} (xs : List X) (ys : List Y) (n : ℕ) (x : X) → length xs ≡ length ys → slice_get xs n ≡ Some x
+    → (y : Y) × (slice_get ys n ≡ Some y)
 both_at [] ys n x same h = absurd (cc h)
 both_at (x ∷ xs) [] n z same h = absurd (cc same)
 both_at (x ∷ xs) (y ∷ ys) zero z same h = (y, refl)
@@ -47,7 +49,8 @@ map_at f [] n x h = absurd (cc h)
 map_at f (z ∷ zs) zero x h = let same : z ≡ x = cc in ap (λ w. Some (f w)) same
 map_at f (z ∷ zs) (suc n) x h = map_at f zs n x h
 
-pub of_map : {X Y : Type 0} (f : X → Y) (xs : List X) (n : ℕ) (y : Y) → slice_get (map f xs) n ≡ Some y → (x : X) × ((slice_get xs n ≡ Some x) × (y ≡ f x))
+pub of_map : {X Y : Type 0} (f : X → Y) (xs : List X) (n : ℕ) (y : Y) → slice_get (map f xs) n ≡ Some y
+    → (x : X) × ((slice_get xs n ≡ Some x) × (y ≡ f x))
 of_map f [] n y h = absurd (cc h)
 of_map f (z ∷ zs) zero y h = let same : f z ≡ y = cc in (z, (refl, sym same))
 of_map f (z ∷ zs) (suc n) y h = of_map f zs n y h

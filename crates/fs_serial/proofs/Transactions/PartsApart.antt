@@ -38,21 +38,28 @@ more_apart f fs none h i j a b off p q = elim (either_at fs f a i p) as (λ _. s
 ]
 
 with_apart : (f : List ℕ) (fs : List (List ℕ)) → AreApart fs → AreApart (with_file f fs)
-with_apart f fs h = elim (list_any (λ g. same g f) fs) as (λ b. list_any (λ g. same g f) fs ≡ b → AreApart (cond b fs (fs ++ f ∷ []))) [ true ↦ λ e. h | false ↦ λ e. more_apart f fs e h ] refl
+with_apart f fs h =
+    elim (list_any (λ g. same g f) fs) as
+    (λ b. list_any (λ g. same g f) fs ≡ b → AreApart (cond b fs (fs ++ f ∷ []))) [ true ↦ λ e. h | false ↦ λ e. more_apart f fs e h ] refl
 
 led_apart : (o : Op) (file : List ℕ) → AreApart (led_files o file)
-led_apart o file = with_apart file (with_file (source_of o) (home_of o ∷ [])) (with_apart (source_of o) (home_of o ∷ []) (one_apart (home_of o)))
+led_apart o file =
+    with_apart file (with_file (source_of o) (home_of o ∷ [])) (with_apart (source_of o) (home_of o ∷ []) (one_apart (home_of o)))
 
 with_first : (f : List ℕ) (fs : List (List ℕ)) (h : List ℕ) → slice_get fs 0 ≡ Some h → slice_get (with_file f fs) 0 ≡ Some h
-with_first f fs h e = elim (list_any (λ g. same g f) fs) as (λ b. slice_get (cond b fs (fs ++ f ∷ [])) 0 ≡ Some h) [ true ↦ e | false ↦ front_at fs (f ∷ []) 0 h e ]
+with_first f fs h e =
+    elim (list_any (λ g. same g f) fs) as
+    (λ b. slice_get (cond b fs (fs ++ f ∷ [])) 0 ≡ Some h) [ true ↦ e | false ↦ front_at fs (f ∷ []) 0 h e ]
 
 -- ## Parts
 
 pub first_part : (m : ToLead) → slice_get (parts_in m) 0 ≡ Some (part_at Plain m.op m.file m.uses (home_of m.op))
 first_part m = map_at (part_at Plain m.op m.file m.uses) (led_files m.op m.file) 0 (home_of m.op)
-    (with_first m.file (with_file (source_of m.op) (home_of m.op ∷ [])) (home_of m.op) (with_first (source_of m.op) (home_of m.op ∷ []) (home_of m.op) refl))
+    (with_first m.file (with_file (source_of m.op) (home_of m.op ∷ [])) (home_of m.op)
+        (with_first (source_of m.op) (home_of m.op ∷ []) (home_of m.op) refl))
 
-pub parts_apart : (m : ToLead) (i j : ℕ) (p q : Part) → (i == j) ≡ false → slice_get (parts_in m) i ≡ Some p → slice_get (parts_in m) j ≡ Some q → same p.file q.file ≡ false
+pub parts_apart : (m : ToLead) (i j : ℕ) (p q : Part) → (i == j) ≡ false → slice_get (parts_in m) i ≡ Some p
+    → slice_get (parts_in m) j ≡ Some q → same p.file q.file ≡ false
 parts_apart m i j p q off a b =
     let x = of_map (part_at Plain m.op m.file m.uses) (led_files m.op m.file) i p a in
     let y = of_map (part_at Plain m.op m.file m.uses) (led_files m.op m.file) j q b in
