@@ -15,6 +15,7 @@ pub mod OneOfSession
 pub mod AwaitedWords
 pub mod OwnersOfLocks
 pub mod LedPrepared
+pub mod OneOwner
 pub mod OthersKeep
 pub mod LocksLeft
 pub mod LeavesLed

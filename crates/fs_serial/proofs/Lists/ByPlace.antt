@@ -34,15 +34,7 @@ front_at [] ys n x h = absurd (cc h)
 front_at (z ∷ zs) ys zero x h = h
 front_at (z ∷ zs) ys (suc n) x h = front_at zs ys n x h
 
--- ## Two lists
-
--- of two lists of one length both have an item at the place
-pub both_at : {X Y : Type 0} (xs : List X) (ys : List Y) (n : ℕ) (x : X) → length xs ≡ length ys → slice_get xs n ≡ Some x
-    → (y : Y) × (slice_get ys n ≡ Some y)
-both_at [] ys n x same h = absurd (cc h)
-both_at (x ∷ xs) [] n z same h = absurd (cc same)
-both_at (x ∷ xs) (y ∷ ys) zero z same h = (y, refl)
-both_at (x ∷ xs) (y ∷ ys) (suc n) z same h = both_at xs ys n z (cc same) h
+-- ## Of the images
 
 pub map_at : {X Y : Type 0} (f : X → Y) (xs : List X) (n : ℕ) (x : X) → slice_get xs n ≡ Some x → slice_get (map f xs) n ≡ Some (f x)
 map_at f [] n x h = absurd (cc h)

@@ -44,9 +44,10 @@ use Rattle.fs_txn.proofs.Keys.{txn_is, txn_itself}
 use Rattle.fs_serial.specs.Cluster.{Cluster, Lines, after_step, in_flight_from, is_with, with_sent, without_first, without_question}
 use Rattle.fs_serial.specs.Leading.{IsEnded, IsLeading, IsLedBy, IsPlain, IsToldOf, LedHolds}
 use Rattle.fs_serial.specs.Words.{desks_of, kept_at, key_of, said_at, stage_of_key, telling_of}
-use Rattle.fs_serial.proofs.Lists.ByPlace.{both_at, not_found}
+use Rattle.fs_serial.proofs.Lists.ByPlace.{not_found}
 use Rattle.fs_serial.proofs.Lists.Servers.{In_at}
 use Rattle.fs_serial.proofs.Transactions.Desks.{FilesApart, deciding_word, each_after, ended_then, leading_then, prepared_set, stage_is, stage_still, stage_was, stand_alike, telling_append, told_then}
+use Rattle.fs_serial.proofs.Transactions.OwnersOfLocks.{in_range}
 use Rattle.fs_serial.proofs.Transactions.PartsApart.{first_part, parts_apart}
 use Rattle.fs_serial.proofs.Transactions.RoundsLocks.{LocksSoFar, NoDecision, rounds_locked, rounds_rows_stay, rounds_undecided}
 use Rattle.fs_serial.proofs.Transactions.RoundsStages.{desks_with, none_asked, parts_with, rounds_at, rounds_home, rounds_lines, rounds_server, rounds_stand, rounds_votes, stages_with, wanted_at}
@@ -218,7 +219,7 @@ module _ (k : ℕ) (c : Cluster) (s : Server) (at : slice_get c.servers k ≡ So
           → (p : Part) × (slice_get (parts_in m) y.part ≡ Some p)
       new_part y e known =
           let q = known_place y.part places (slice_get votes y.part) (λ u. known (stage_new y e ∙ u)) in
-          both_at places (parts_in m) y.part q.0 all_places q.1
+          in_range places (parts_in m) y.part q.0 all_places q.1
 
       files_after : FilesApart parts (stage_of_key servers)
       files_after a b one two p q = by_txn (same_txn a.txn txn) refl

@@ -10,7 +10,7 @@ use Rattle.fs_ident.specs.declared.actor.Session.{Session}
 use Rattle.fs_ident.specs.declared.actor.TxnNo.{TxnNo}
 use Rattle.fs_ident.proofs.Passing.{found}
 use Rattle.fs_ident.proofs.Same.{itself}
-use Rattle.fs_ident.proofs.Standing.{In-behind, In-both, In-front, In-got}
+use Rattle.fs_ident.proofs.Standing.{In-behind, In-both, In-got}
 use Rattle.fs_field.specs.Table.{is_ordered, same_txn}
 use Rattle.fs_field.specs.declared.effect.Effect.{Effect}
 use Rattle.fs_field.specs.declared.row.Row.{Row}
@@ -50,7 +50,7 @@ use Rattle.fs_serial.specs.Words.{Comes, desks_of, kept_at, key_of, prepared_in,
 use Rattle.fs_serial.proofs.Lists.SetAt.{get_here, get_other}
 use Rattle.fs_serial.proofs.Transactions.Desks.{FilesApart, IsHeard, IsVotedWord, each_after, ended_then, files_still, heard, leading_then, prepared_set, stage_at, stage_one, stage_was, stand_alike, taken_In, telling_append, told_then, voted_word}
 use Rattle.fs_serial.proofs.Transactions.OwnVotes.{counts_here, stage_counted, voted_stay, yes_stands}
-use Rattle.fs_serial.proofs.Transactions.Tables.{In_all, in_with_leading, leading_other, leading_set, locks_alike}
+use Rattle.fs_serial.proofs.Transactions.Tables.{in_with_leading, leading_other, leading_set, locks_alike}
 use Rattle.fs_serial.proofs.Transactions.YesLocks.{yes_locks}
 use Rattle.fs_serial.proofs.Transactions.YesParts.{ChangesOne, IsSaidHere, again_said, said_in, said_new, still_said}
 
