@@ -1,11 +1,10 @@
 -- A leader decides a transaction: all that holds of transactions stays, where what is told then is as it has to be.
 use mathlib.Core.Path.{fun_ext}
-use Rattle.std.proofs.Common.{◌≡◌, ◌==◌, ◌≤◌, ◌<◌, ℕ, zero, suc, Bool, true, false, not, List, [], ◌∷◌, ◌++◌, length, map, refl, sym, ap, ap₂, ◌∙◌, subst, cond, inl, inr, append-nil, arith}
+use Rattle.std.proofs.Common.{◌≡◌, ◌==◌, ◌≤◌, ℕ, Bool, true, false, not, List, [], ◌∷◌, ◌++◌, length, map, refl, sym, ap, ap₂, ◌∙◌, subst, cond, inl, inr, append-nil, arith}
 use Rattle.std.specs.Prelude.{◌≢◌, Option, Some, None, is_some, option_map, slice_get}
 use Rattle.std.specs.List.{find, flat_map}
-use Rattle.std.proofs.lemmas.Bool.{eqb-false}
+use Rattle.std.proofs.lemmas.Bool.{eqb-false, not-true}
 use Rattle.std.proofs.lemmas.List.Elements.{filter-append}
-use Rattle.std.proofs.lemmas.Option.{slice_get_within}
 use Rattle.fs_ident.specs.In.{In}
 use Rattle.fs_ident.specs.declared.actor.Session.{Session}
 use Rattle.fs_ident.specs.declared.actor.TxnNo.{TxnNo}
@@ -56,12 +55,13 @@ use Rattle.fs_txn.proofs.Telling.{drops, tells}
 use Rattle.fs_serial.specs.Cluster.{Cluster}
 use Rattle.fs_serial.specs.Conclusions.{after_concluded}
 use Rattle.fs_serial.specs.Leading.{IsEnded, IsLeading, IsLedBy, IsToldOf, LedHolds}
-use Rattle.fs_serial.specs.Words.{desks_of, ending_at, kept_at, key_of, leading_at, prepared_in, ready_at, said_at, stage_of_key, telling_of, wanted_of}
+use Rattle.fs_serial.specs.Words.{desks_of, ended_in, ending_at, kept_at, key_of, leading_at, prepared_in, ready_at, said_at, stage_of_key, telling_of, wanted_of}
 use Rattle.fs_serial.proofs.Transactions.Decisions.{IsTold, awaited_first, decision_word, decision_words, first_awaited, is_told, none_of_words, words_of, yes_said}
 use Rattle.fs_serial.proofs.Transactions.Decisions.IsTold.{told, untold}
 use Rattle.fs_serial.proofs.Transactions.Desks.{FilesApart, each_after, ended_then, files_still, is_at, leading_then, prepared_set, same_at, telling_append, told_then, was_at}
 use Rattle.fs_serial.proofs.Transactions.OthersKeep.{ended_waits, leading_waits, sent_client, waits_alike}
-use Rattle.fs_serial.proofs.Transactions.Tables.{In_some, all_stay, ending_kept, ending_other, ending_over, ending_set, ending_there, in_kept, in_with_ending, in_without_leading, kept_there, leading_gone, leading_left, locks_alike, said_its, said_left, txn_apart}
+use Rattle.fs_serial.proofs.Transactions.OwnersOfLocks.{in_range, said_session, session_by, session_of}
+use Rattle.fs_serial.proofs.Transactions.Tables.{all_stay, ending_kept, ending_other, ending_over, ending_set, ending_there, in_kept, in_with_ending, in_without_leading, kept_there, leading_gone, leading_left, locks_alike, said_left, txn_apart}
 
 -- ## Parts of a server's own transactions
 
@@ -139,24 +139,7 @@ keeps_end (Commit reply.Renamed effects) h = refl
 keeps_end (Commit r effects) h = absurd (cc h)
 keeps_end (Abort e) h = absurd (cc h)
 
-denied : (b : Bool) → not b ≡ true → b ≡ false
-denied true h = sym h
-denied false h = refl
-
-no_option : {X Y : Type 0} (f : X → Y) (o : Option X) → option_map f o ≡ None → o ≡ None
-no_option f None h = refl
-no_option f (Some x) h = absurd (cc h)
-
 -- ## The decision
-
-there_is : {X : Type 0} (xs : List X) (n : ℕ) → n < length xs → (x : X) × (slice_get xs n ≡ Some x)
-there_is [] n lt = absurd (omega (arith, lt))
-there_is (x ∷ xs) zero lt = (x, refl)
-there_is (x ∷ xs) (suc n) lt = there_is xs n (omega (arith, lt))
-
-as_long : {X Y : Type 0} (xs : List X) (ys : List Y) (n : ℕ) (x : X) → length xs ≡ length ys → slice_get xs n ≡ Some x
-    → (y : Y) × (slice_get ys n ≡ Some y)
-as_long xs ys n x e h = there_is ys n (subst (λ m. n < m) e (slice_get_within xs n x h))
 
 -- a part of a transaction of which all have voted is counted, or there is none of that number
 pub data WasCounted (stage : Stage) (asked : Option ℕ) (vote : Option (Option Vote)) : Type 0 where
@@ -382,7 +365,10 @@ module _ (k : ℕ) (c : Cluster) (s : Server) (at : slice_get c.servers k ≡ So
       key = key_of t r.number
 
       none : find (is_part t r.number) s.prepared ≡ None
-      none = no_option wanted_of (find (is_part t r.number) s.prepared)
+      none = elim (find (is_part t r.number) s.prepared) as (λ o. option_map wanted_of o ≡ None → o ≡ None) [
+        | None ↦ λ e. refl
+        | Some z ↦ λ e. absurd (cc e)
+      ]
           (sym (ap (λ o. option_map wanted_of (find (is_part t r.number) (ready_at o))) (was_at c.servers k s y at t.server mine))
               ∙ not_at_home key (held.parts key) (stage_of_key c.servers key) (λ j. prepared_in c.servers j key)
               (told_of key (telling_of c.in_flight)) (held.stages key))
@@ -402,19 +388,11 @@ module _ (k : ℕ) (c : Cluster) (s : Server) (at : slice_get c.servers k ≡ So
 
   -- each part of the transaction here is its session's
   one_session : (z : Agreed) → In z (said_at s) → z.key.txn ≡ t → z.wanted.session ≡ by
-  one_session z i e = elim (In-append z (map agreed_of s.prepared) (flat_map (said_by s.me) s.leading) i) as (λ _. z.wanted.session ≡ by) [
-    | inl j ↦
-        let q = In-map agreed_of z s.prepared j in
-        let wrong : true ≡ false = sym (txn_itself t) ∙ ap (λ u. same_txn u t) (sym e ∙ ap (λ (a : Agreed). a.key.txn) q.1.1)
-            ∙ none_ready q.0 q.1.0 in
-        absurd (cc wrong)
-    | inr j ↦
-        let q = In_some (said_by s.me) z s.leading j in
-        let its = said_its s.me q.0 z q.1.1 in
-        let same : Some q.0 ≡ Some l = sym (held.leading s here q.0 q.1.0).one ∙ ap (λ u. leading_of u s.leading) (sym its.txn ∙ e) ∙ led in
-        let is : q.0 ≡ l = cc in
-        its.session ∙ ap (λ (m : Leading). m.leader.session) is
-  ]
+  one_session z i e =
+      let its : session_of c.servers t ≡ Some by =
+          ap (λ o. session_by o (ended_in c.servers t)) (ap (λ o. leading_of t (leading_at o)) (was_at c.servers k s y at t.server mine) ∙ led) in
+      let same : Some z.wanted.session ≡ Some by = sym (said_session c held s k at me z i) ∙ ap (session_of c.servers) e ∙ its in
+      cc
 
   abbrev its_commit : Kept
   its_commit = record { txn = t; session = by }
@@ -446,7 +424,7 @@ module _ (k : ℕ) (c : Cluster) (s : Server) (at : slice_get c.servers k ≡ So
       ]) committed
 
   none_said : (z : Agreed) → In z (said_at y) → same_txn z.key.txn t ≡ false
-  none_said z i = denied (same_txn z.key.txn t)
+  none_said z i = not-true (same_txn z.key.txn t)
       (passing (λ (a : Agreed). not (same_txn a.key.txn t)) (said_at s) z (subst (In z) (sym said_then) i))
 
   -- else they are unlocked
@@ -485,13 +463,13 @@ module _ (k : ℕ) (c : Cluster) (s : Server) (at : slice_get c.servers k ≡ So
   -- each part that is awaited then is another server's, and the session's
   awaited_out : (n : ℕ × ℕ) → In n out → ((n.1 == s.me) ≡ false) × ((held.parts (key_of t n.0)).session ≡ by)
   awaited_out n i = (
-    denied (n.1 == s.me) (passing (λ (a : ℕ × ℕ). not (a.1 == s.me)) (yes_parts l) n i),
+    not-true (n.1 == s.me) (passing (λ (a : ℕ × ℕ). not (a.1 == s.me)) (yes_parts l) n i),
     of_part (is_told s.me n.0 l),
   )
     where
       of_part : IsTold s.me n.0 out (slice_get l.leader.votes n.0) (slice_get l.at n.0) → (held.parts (key_of t n.0)).session ≡ by
       of_part (told p q v a f) =
-          let part = as_long l.leader.votes l.leader.parts n.0 (Some Yes) leads.votes v in
+          let part = in_range l.leader.votes l.leader.parts n.0 (Some Yes) leads.votes v in
           ap (λ (w : Wanted). w.session) (leads.wanted n.0 part.0 part.1)
       of_part (untold q f) = absurd (subst (In n) q (kept_in (λ (a : ℕ × ℕ). a.0 == n.0) n out i (itself n.0)))
 
