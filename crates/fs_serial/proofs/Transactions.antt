@@ -14,5 +14,6 @@ pub mod LedPrepared
 pub mod OthersKeep
 pub mod LocksLeft
 pub mod LeavesLed
+pub mod ClientsWait
 pub mod LedDecided
 pub mod LedConcluded
