@@ -14,6 +14,7 @@ pub mod LedPrepared
 pub mod OthersKeep
 pub mod LocksLeft
 pub mod LeavesLed
+pub mod GivesBack
 pub mod ClientsWait
 pub mod LedDecided
 pub mod LedConcluded
