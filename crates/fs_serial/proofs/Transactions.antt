@@ -18,3 +18,4 @@ pub mod GivesBack
 pub mod ClientsWait
 pub mod LedDecided
 pub mod LedConcluded
+pub mod LedDone

@@ -3,7 +3,7 @@ use mathlib.Core.Path.{fun_ext}
 use Rattle.std.proofs.Common.{◌≡◌, ◌==◌, ◌≤◌, ℕ, Bool, true, false, not, List, [], ◌∷◌, ◌++◌, length, map, refl, sym, ap, ap₂, ◌∙◌, subst, cond, inl, inr, append-nil, arith}
 use Rattle.std.specs.Prelude.{◌≢◌, Option, Some, None, is_some, option_map, slice_get}
 use Rattle.std.specs.List.{find, flat_map}
-use Rattle.std.proofs.lemmas.Bool.{eqb-false, not-true}
+use Rattle.std.proofs.lemmas.Bool.{not-true}
 use Rattle.std.proofs.lemmas.List.Elements.{filter-append}
 use Rattle.fs_ident.specs.In.{In}
 use Rattle.fs_ident.specs.declared.actor.Session.{Session}
@@ -20,7 +20,6 @@ use Rattle.fs_field.specs.declared.vote.Vote.TheVariants.{Yes, Ended, Moved, Pat
 use Rattle.fs_model.specs.declared.op.Op.{Op}
 use Rattle.fs_model.specs.declared.op.Op.TheVariants as op
 use Rattle.fs_model.specs.declared.reply.Reply.TheVariants as reply
-use Rattle.fs_msg.specs.declared.msg.Msg.TheVariants as msg
 use Rattle.fs_parcel.proofs.Both.{passing}
 use Rattle.fs_record.specs.declared.led_end.LedEnd.{LedEnd}
 use Rattle.fs_record.specs.declared.led_end.LedEnd.TheVariants as end
@@ -36,10 +35,8 @@ use Rattle.fs_txn.specs.Deciding.{again, agreed, commit, decision, end_of_place,
 use Rattle.fs_txn.specs.Leading.{awaited_stage, elsewhere, ending_of, keeps_till_done, leading_of, said_by, stage_by, stage_in, yes_parts}
 use Rattle.fs_txn.specs.Locks.{Agreed, Kept, LocksHold, rows_unlocked, without_kept, without_txn}
 use Rattle.fs_txn.specs.Ready.{agreed_of, is_part}
-use Rattle.fs_txn.specs.Stages.{IsHeldAt, IsStage, IsVoted, Key, Stage, StagesHold, Told, Wanted, is_of, is_yes, told_of, word_to}
-use Rattle.fs_txn.specs.Stages.IsAsking.{coming, refused, granted}
-use Rattle.fs_txn.specs.Stages.IsEnding.{decided, done}
-use Rattle.fs_txn.specs.Stages.Stage.{Unknown, Asked, Counted, Awaited}
+use Rattle.fs_txn.specs.Stages.{IsStage, Key, Stage, StagesHold, Told, Wanted, is_of, told_of, word_to}
+use Rattle.fs_txn.specs.Stages.Stage.{Unknown, Counted, Awaited}
 use Rattle.fs_txn.specs.Stages.Word.{Decide}
 use Rattle.fs_txn.specs.Telling.{with_key}
 use Rattle.fs_txn.specs.Votes.{Votes, is_full}
@@ -58,38 +55,10 @@ use Rattle.fs_serial.specs.Leading.{IsEnded, IsLeading, IsLedBy, IsToldOf, LedHo
 use Rattle.fs_serial.specs.Words.{desks_of, ended_in, ending_at, kept_at, key_of, leading_at, prepared_in, ready_at, said_at, stage_of_key, telling_of, wanted_of}
 use Rattle.fs_serial.proofs.Transactions.Decisions.{IsTold, awaited_first, decision_word, decision_words, first_awaited, is_told, none_of_words, words_of, yes_said}
 use Rattle.fs_serial.proofs.Transactions.Decisions.IsTold.{told, untold}
-use Rattle.fs_serial.proofs.Transactions.Desks.{FilesApart, each_after, ended_then, files_still, is_at, leading_then, prepared_set, same_at, telling_append, told_then, was_at}
+use Rattle.fs_serial.proofs.Transactions.Desks.{FilesApart, each_after, ended_then, files_still, is_at, leading_then, not_at_home, prepared_set, same_at, telling_append, told_then, was_at}
 use Rattle.fs_serial.proofs.Transactions.OthersKeep.{ended_waits, leading_waits, sent_client, waits_alike}
 use Rattle.fs_serial.proofs.Transactions.OwnersOfLocks.{in_range, said_session, session_by, session_of}
 use Rattle.fs_serial.proofs.Transactions.Tables.{all_stay, ending_kept, ending_other, ending_over, ending_set, ending_there, in_kept, in_with_ending, in_without_leading, kept_there, leading_gone, leading_left, locks_alike, said_left, txn_apart}
-
--- ## Parts of a server's own transactions
-
-other_server : (p k : ℕ) → (p == k) ≡ false → k ≢ p
-other_server p k e q = eqb-false p k e (sym q)
-
--- the leader itself keeps none of its parts ready
-not_at_home : (key : Key) (w : Wanted) (st : Stage) (prepared : ℕ → Option Wanted) (words : List Told) → IsStage key w st prepared words
-    → prepared key.txn.server ≡ None
-not_at_home key w Unknown prepared words i = i.1 key.txn.server
-not_at_home key w (Asked p) prepared words i = elim i.1 as (λ _. prepared key.txn.server ≡ None) [
-  | coming e none ↦ none key.txn.server
-  | refused v against e none ↦ none key.txn.server
-  | granted e alone ↦ alone.others key.txn.server (other_server p key.txn.server i.0)
-]
-not_at_home key w (Counted p v) prepared words i = by (is_yes v) i.1
-  where
-    held : (b : Bool) → (p == key.txn.server) ≡ b → IsHeldAt b p w prepared → prepared key.txn.server ≡ None
-    held true e none = none key.txn.server
-    held false e alone = alone.others key.txn.server (other_server p key.txn.server e)
-
-    by : (b : Bool) → IsVoted b key p w prepared → prepared key.txn.server ≡ None
-    by false none = none key.txn.server
-    by true h = held (p == key.txn.server) refl h
-not_at_home key w (Awaited p) prepared words i = elim i.1 as (λ _. prepared key.txn.server ≡ None) [
-  | decided es e alone ↦ alone.others key.txn.server (other_server p key.txn.server i.0)
-  | done e none ↦ none key.txn.server
-]
 
 -- ## Votes and ends
 

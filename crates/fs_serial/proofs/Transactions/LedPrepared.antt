@@ -51,9 +51,12 @@ abbrev pub OneEach : Cluster → Type 0
 OneEach c = (x : Session) → length (ends_in c x).up + length (due (ends_in c x).down) ≤ 1
 
 -- whoever says Yes has the file, and the rows of all leases
-pub voted_yes : (s : Server) (by : Session) (p : Part) → vote_here s by p ≡ Yes → (is_mine s p.file ≡ true) × (first_gone s.rows by p.uses ≡ None)
+pub voted_yes : (s : Server) (by : Session) (p : Part) → vote_here s by p ≡ Yes
+    → (is_mine s p.file ≡ true) × (first_gone s.rows by p.uses ≡ None)
 voted_yes s by p h =
-    let mine : is_mine s p.file ≡ true = elim (is_mine s p.file) as (λ b. cond b (vote_by (first_gone s.rows by p.uses) None s.last) (moved_to (longest s.map p.file)) ≡ Yes → b ≡ true) [
+    let mine : is_mine s p.file ≡ true =
+        elim (is_mine s p.file) as
+        (λ b. cond b (vote_by (first_gone s.rows by p.uses) None s.last) (moved_to (longest s.map p.file)) ≡ Yes → b ≡ true) [
       | true ↦ λ e. refl
       | false ↦ λ e. absurd (cc)
     ] h in
@@ -77,13 +80,16 @@ vote_leaves Yes x s = record {
   txns = omega arith;
   leading = refl;
   ending = refl;
-  locked = λ r txn i e. subst (λ z. In z (rows_locked x.txn x.part.uses s.rows)) (stays x.txn x.part.uses r (ap is_some e)) (In-mapped (row_locked x.txn x.part.uses) r s.rows i);
+  locked =
+      λ r txn i e. subst (λ z. In z (rows_locked x.txn x.part.uses s.rows)) (stays x.txn x.part.uses r (ap is_some e))
+      (In-mapped (row_locked x.txn x.part.uses) r s.rows i);
 }
 vote_leaves (Ended n u w) x s = record { me = refl; txns = omega arith; leading = refl; ending = refl; locked = λ r txn i e. i }
 vote_leaves (Moved p to) x s = record { me = refl; txns = omega arith; leading = refl; ending = refl; locked = λ r txn i e. i }
 vote_leaves (PathsOut n) x s = record { me = refl; txns = omega arith; leading = refl; ending = refl; locked = λ r txn i e. i }
 
-module _ (k from : ℕ) (c : Cluster) (s : Server) (at : slice_get c.servers k ≡ Some s) (held : LedHolds c) (m : PrepareMsg) (comes : Comes k from c (peer.Prepare m)) where
+module _ (k from : ℕ) (c : Cluster) (s : Server) (at : slice_get c.servers k ≡ Some s) (held : LedHolds c) (m : PrepareMsg)
+    (comes : Comes k from c (peer.Prepare m)) where
   abbrev key : Key
   key = key_of m.txn m.number
 
@@ -123,28 +129,40 @@ module _ (k from : ℕ) (c : Cluster) (s : Server) (at : slice_get c.servers k �
   -- ## Where the part stands
 
   heard_it : IsTakenWord from k c.in_flight asks
-  heard_it = heard_as from k (peer.Prepare m) (key, Prepare asked) c.in_flight asks refl comes (ap (λ n. let w : Told = record { from = n; to = k; key = key; word = Prepare asked } in w) here.leader)
+  heard_it =
+      heard_as from k (peer.Prepare m) (key, Prepare asked) c.in_flight asks refl comes
+      (ap (λ n. let w : Told = record { from = n; to = k; key = key; word = Prepare asked } in w) here.leader)
 
   telling_after : telling_of after.in_flight ≡ taken asks (telling_of c.in_flight) ++ answer ∷ []
   telling_after =
       telling_append (without_first (is_between from k) c.in_flight) (in_flight_from k (votes v from m s).out.send)
       ∙ ap (λ xs. xs ++ telling_of (in_flight_from k (votes v from m s).out.send)) heard_it.left
-      ∙ ap (λ n. taken asks (telling_of c.in_flight) ++ (let w : Told = record { from = k; to = n; key = key; word = Voted v } in w) ∷ []) here.leader
+      ∙ ap (λ n. taken asks (telling_of c.in_flight) ++
+          (let w : Told = record { from = k; to = n; key = key; word = Voted v } in w) ∷ []) here.leader
 
   stages_after : (y : Key) → stage_of_key after.servers y ≡ stage_of_key c.servers y
   stages_after y = stage_set c.servers k s t at leaves.leading leaves.ending y
 
   -- nobody has it ready
   none_ready : find (is_part m.txn m.number) s.prepared ≡ None
-  none_ready = none_mapped wanted_of (find (is_part m.txn m.number) s.prepared) (sym (ap (λ o. option_map wanted_of (find (is_part m.txn m.number) (ready_at o))) at) ∙ here.nowhere k)
+  none_ready =
+      none_mapped wanted_of (find (is_part m.txn m.number) s.prepared)
+      (sym (ap (λ o. option_map wanted_of (find (is_part m.txn m.number) (ready_at o))) at) ∙ here.nowhere k)
 
-  ready_yes : (y : Key) → option_map wanted_of (find (is_part y.txn y.part) (s.prepared ++ new ∷ [])) ≡ with_key key (Some asked) (λ z. option_map wanted_of (find (is_part z.txn z.part) s.prepared)) y
-  ready_yes y = elim (same_key y key) as (λ b. same_key y key ≡ b → option_map wanted_of (find (is_part y.txn y.part) (s.prepared ++ new ∷ [])) ≡ cond b (Some asked) (option_map wanted_of (find (is_part y.txn y.part) s.prepared))) [
-    | true ↦ λ e. ap (λ (z : Key). option_map wanted_of (find (is_part z.txn z.part) (s.prepared ++ new ∷ []))) (key_is y key e) ∙ ap (option_map wanted_of) (part_last new s.prepared none_ready)
+  ready_yes : (y : Key) → option_map wanted_of (find (is_part y.txn y.part) (s.prepared ++ new ∷ [])) ≡ with_key key (Some asked)
+      (λ z. option_map wanted_of (find (is_part z.txn z.part) s.prepared)) y
+  ready_yes y =
+      elim (same_key y key) as
+      (λ b. same_key y key ≡ b → option_map wanted_of (find (is_part y.txn y.part) (s.prepared ++ new ∷ [])) ≡ cond b (Some asked)
+      (option_map wanted_of (find (is_part y.txn y.part) s.prepared))) [
+    | true ↦
+        λ e. ap (λ (z : Key). option_map wanted_of (find (is_part z.txn z.part) (s.prepared ++ new ∷ []))) (key_is y key e)
+        ∙ ap (option_map wanted_of) (part_last new s.prepared none_ready)
     | false ↦ λ e. ap (option_map wanted_of) (part_other new y s.prepared e)
   ] refl
 
-  prepared_by : (w : Vote) (j : ℕ) (y : Key) → prepared_in (then_of k from c (peer.Prepare m) (votes w from m s)).servers j y ≡ cond (is_yes w) (with_prepared k key (Some asked) (prepared_in c.servers)) (prepared_in c.servers) j y
+  prepared_by : (w : Vote) (j : ℕ) (y : Key) → prepared_in (then_of k from c (peer.Prepare m) (votes w from m s)).servers j y ≡ cond
+      (is_yes w) (with_prepared k key (Some asked) (prepared_in c.servers)) (prepared_in c.servers) j y
   prepared_by Yes j y = prepared_one c.servers k s (after_vote Yes new s) at key (Some asked) ready_yes j y
   prepared_by (Ended n u w) j y = prepared_set c.servers k s s at refl j y
   prepared_by (Moved p to) j y = prepared_set c.servers k s s at refl j y
@@ -160,17 +178,22 @@ module _ (k from : ℕ) (c : Cluster) (s : Server) (at : slice_get c.servers k �
 
   -- ## The server's tables
 
-  ready_by : (w : Vote) (x : Ready) → In x (after_vote w new s).prepared → find (is_part x.txn x.number) (after_vote w new s).prepared ≡ Some x
+  ready_by : (w : Vote) (x : Ready) → In x (after_vote w new s).prepared
+      → find (is_part x.txn x.number) (after_vote w new s).prepared ≡ Some x
   ready_by Yes x i = In-more x s.prepared new (find (is_part x.txn x.number) (s.prepared ++ new ∷ []) ≡ Some x)
       (λ j. found_front (is_part x.txn x.number) s.prepared (new ∷ []) x (held.ready s s_there x j))
-      (λ e. subst (λ (z : Ready). find (is_part z.txn z.number) (s.prepared ++ new ∷ []) ≡ Some z) (sym e) (part_last new s.prepared none_ready)) i
+      (λ e. subst (λ (z : Ready). find (is_part z.txn z.number) (s.prepared ++ new ∷ []) ≡ Some z) (sym e)
+          (part_last new s.prepared none_ready)) i
   ready_by (Ended n u w) x i = held.ready s s_there x i
   ready_by (Moved p to) x i = held.ready s s_there x i
   ready_by (PathsOut n) x i = held.ready s s_there x i
 
   -- a decision on its way was so before
-  told_before : (y : Key) (j : ℕ) (effects : List Effect) → In (word_to y j (Decide effects)) (telling_of after.in_flight) → In (word_to y j (Decide effects)) (telling_of c.in_flight)
-  told_before y j effects i = In-more (word_to y j (Decide effects)) (taken asks (telling_of c.in_flight)) answer (In (word_to y j (Decide effects)) (telling_of c.in_flight))
+  told_before : (y : Key) (j : ℕ) (effects : List Effect) → In (word_to y j (Decide effects)) (telling_of after.in_flight)
+      → In (word_to y j (Decide effects)) (telling_of c.in_flight)
+  told_before y j effects i =
+      In-more (word_to y j (Decide effects)) (taken asks (telling_of c.in_flight)) answer
+      (In (word_to y j (Decide effects)) (telling_of c.in_flight))
       (taken_In asks (word_to y j (Decide effects)) (telling_of c.in_flight))
       (λ e. let wrong : Decide effects ≡ Voted v = ap (λ (w : Told). w.word) e in absurd (cc))
       (subst (In (word_to y j (Decide effects))) telling_after i)
@@ -188,9 +211,11 @@ module _ (k from : ℕ) (c : Cluster) (s : Server) (at : slice_get c.servers k �
     locks_by : (w : Vote) → v ≡ w → LocksHold (after_vote w new s).rows (said_at (after_vote w new s)) (kept_at (after_vote w new s))
     locks_by Yes e =
         let others : List Agreed = flat_map (said_by s.me) s.leading in
-        locks_alike (rows_locked m.txn m.part.uses s.rows) (agreed_of new ∷ said_at s) (said_at (after_vote Yes new s)) (kept_at s) (kept_at s)
+        locks_alike (rows_locked m.txn m.part.uses s.rows) (agreed_of new ∷ said_at s) (said_at (after_vote Yes new s)) (kept_at s)
+            (kept_at s)
         (said_more new s.prepared others) (said_no_less new s.prepared others) (λ z i. i)
-        (yes_locks s.rows (said_at s) (kept_at s) (agreed_of new) (held.locks s s_there) ordered (voted_yes s m.session m.part e).1 own_locks)
+        (yes_locks s.rows (said_at s) (kept_at s) (agreed_of new) (held.locks s s_there) ordered
+            (voted_yes s m.session m.part e).1 own_locks)
     locks_by (Ended n u w) e = held.locks s s_there
     locks_by (Moved p to) e = held.locks s s_there
     locks_by (PathsOut n) e = held.locks s s_there
@@ -200,12 +225,16 @@ module _ (k from : ℕ) (c : Cluster) (s : Server) (at : slice_get c.servers k �
       parts = held.parts;
       stages = stand_then;
       leading = each_after (λ z. (l : Leading) → In l z.leading → IsLeading c.lines z held.parts l) c.servers k t held.leading
-          (λ l i. leading_still c.lines s t held.parts leaves.me leaves.txns leaves.leading leaves.ending l (held.leading s s_there l (subst (In l) leaves.leading i)));
+          (λ l i. leading_still c.lines s t held.parts leaves.me leaves.txns leaves.leading leaves.ending l
+              (held.leading s s_there l (subst (In l) leaves.leading i)));
       ending = each_after (λ z. (x : Ending) → In x z.ending → IsEnded c.lines z held.parts x) c.servers k t held.ending
-          (λ x i. ended_still c.lines s t held.parts leaves.me leaves.txns leaves.leading leaves.ending x (held.ending s s_there x (subst (In x) leaves.ending i)));
-      ready = each_after (λ z. (x : Ready) → In x z.prepared → find (is_part x.txn x.number) z.prepared ≡ Some x) c.servers k t held.ready (ready_by v);
+          (λ x i. ended_still c.lines s t held.parts leaves.me leaves.txns leaves.leading leaves.ending x
+              (held.ending s s_there x (subst (In x) leaves.ending i)));
+      ready = each_after (λ z. (x : Ready) → In x z.prepared → find (is_part x.txn x.number) z.prepared ≡ Some x) c.servers k t held.ready
+          (ready_by v);
       locks = each_after (λ z. LocksHold z.rows (said_at z) (kept_at z)) c.servers k t held.locks (locks_by v refl);
       files = files_still held.parts (stage_of_key c.servers) (stage_of_key after.servers) (λ y n e. n (stages_after y ∙ e)) held.files;
       few = λ y j effects i. held.few y j effects (told_before y j effects i);
-      told = λ y j effects i e n. told_then c.servers k s t at y (held.parts y) e (λ q r z l. leaves.locked r y.txn z l) (held.told y j effects (told_before y j effects i) e n);
+      told = λ y j effects i e n. told_then c.servers k s t at y (held.parts y) e (λ q r z l. leaves.locked r y.txn z l)
+          (held.told y j effects (told_before y j effects i) e n);
     }
