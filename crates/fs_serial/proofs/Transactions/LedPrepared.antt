@@ -42,7 +42,7 @@ use Rattle.fs_serial.proofs.Transactions.AwaitedWords.{IsPrepareHere, prepare_he
 use Rattle.fs_serial.proofs.Transactions.Desks.{IsTakenWord, each_after, ended_still, files_still, heard_as, leading_still, prepared_one, prepared_set, stage_set, stand_alike, taken_In, telling_append, told_then}
 use Rattle.fs_serial.proofs.Transactions.OneOfSession.{one_txn, txns_of}
 use Rattle.fs_serial.proofs.Transactions.OwnersOfLocks.{lock_txn, part_txn, stands_in}
-use Rattle.fs_serial.proofs.Transactions.RoundsLocks.{yes_stands}
+use Rattle.fs_serial.proofs.Transactions.OwnVotes.{yes_stands}
 use Rattle.fs_serial.proofs.Transactions.Tables.{found_front, locks_alike, part_last, part_other, said_more, said_no_less}
 use Rattle.fs_serial.proofs.Transactions.YesLocks.{yes_locks}
 
