@@ -19,6 +19,8 @@ pub mod OneOwner
 pub mod OthersKeep
 pub mod LocksLeft
 pub mod LeavesLed
+pub mod GivesBack
+pub mod ClientsWait
 pub mod LedDecided
 pub mod LedConcluded
 pub mod LedDone

@@ -1,5 +1,6 @@
 -- Events of a server that are no word of a transaction, nor a question to lead one: its tables, words and locks stay.
-use Rattle.std.proofs.Common.{◌≡◌, ◌==◌, ◌≤◌, ◌++◌, ℕ, max, Bool, true, false, List, [], ◌∷◌, refl, sym, ap, ◌∙◌, subst, cond, inl, inr, map, filter, append-nil, arith}
+use Rattle.std.proofs.Common.{◌≡◌, ◌==◌, ◌≤◌, ◌++◌, ℕ, max, Bool, true, false, List, [], ◌∷◌}
+use Rattle.std.proofs.Common.{refl, sym, ap, ◌∙◌, subst, cond, inl, inr, map, filter, append-nil, arith}
 use Rattle.std.specs.Prelude.{Option, Some, None, slice_get, slice_set}
 use Rattle.std.specs.List.{list_all}
 use Rattle.fs_ident.specs.In.{In}
@@ -16,6 +17,7 @@ use Rattle.fs_field.specs.declared.lease_kind.LeaseKind.{LeaseKind}
 use Rattle.fs_field.specs.declared.lease_kind.LeaseKind.TheVariants.{Exclusive}
 use Rattle.fs_field.specs.declared.row.Row.{Row}
 use Rattle.fs_moderows.specs.Answer.{given_row}
+use Rattle.fs_msg.specs.declared.answer.Answer.{Answer}
 use Rattle.fs_msg.specs.declared.client_msg.ClientMsg.{ClientMsg}
 use Rattle.fs_msg.specs.declared.client_msg.ClientMsg.TheVariants.{Ask, Renew, Release, Ship, Lead}
 use Rattle.fs_msg.specs.declared.end.End.{End}
@@ -51,13 +53,13 @@ use Rattle.fs_serial.specs.Cluster.{Cluster, IsThere, Lines, after_step, in_flig
 use Rattle.fs_serial.specs.Exchange.{IsQuestion, OneExchange}
 use Rattle.fs_serial.specs.Leading.{IsLedBy, LeavesLed, LedHolds}
 use Rattle.fs_serial.specs.Words.{IsNoneOfLed, telling_of}
-use Rattle.fs_serial.proofs.Lists.Traffic.{messages}
 use Rattle.fs_serial.proofs.OneServer.Sim.{recalls_quiet}
 use Rattle.fs_serial.proofs.OneServer.SimAsk.{asked_quiet}
 use Rattle.fs_serial.proofs.OneServer.SimTurn.{reaps_quiet}
 use Rattle.fs_serial.proofs.Returns.Lapsing.{begun_at}
 use Rattle.fs_serial.proofs.Transactions.Desks.{not_heard}
-use Rattle.fs_serial.proofs.Transactions.LocksLeft.{locks_begun, locks_itself, locks_left, locks_released, locks_renewed, locks_then, locks_with_row, locks_with_rows}
+use Rattle.fs_serial.proofs.Transactions.LocksLeft.{locks_begun, locks_itself, locks_left, locks_released}
+use Rattle.fs_serial.proofs.Transactions.LocksLeft.{locks_renewed, locks_then, locks_with_row, locks_with_rows}
 use Rattle.fs_serial.proofs.Transactions.OneOfSession.{ends_at, leads_at, txns_at, txns_of}
 use Rattle.fs_serial.proofs.Transactions.OthersKeep.{step_keeps_led}
 use Rattle.fs_serial.proofs.Transactions.OwnersOfLocks.{lock_txn}
@@ -291,13 +293,11 @@ begun_keeps_led k now s c at held =
 -- ## Rows that go back
 
 -- a session that asks for something else waits for no server to lead
-pub asks_other : (lines : Session → Lines) (by : Session) (m : ClientMsg) → In m (messages (lines by).up)
-    → IsNoneOfLed (event.FromClient by m)
-    → OneExchange (lines by).client (lines by).client.exchange (messages (lines by).up) (messages (lines by).down) → (n : ℕ) (d : Led)
-        → IsLedBy lines by n d → ⊥
-asks_other lines by m i none one n d h =
-    elim (subst (λ (x : Option Exchange). OneExchange (lines by).client x (messages (lines by).up)
-        (messages (lines by).down)) h.asked one) as (λ _. ⊥) [
+pub asks_other : (lines : Session → Lines) (by : Session) (asked : List ClientMsg) (heard : List Answer) (m : ClientMsg) → In m asked
+    → IsNoneOfLed (event.FromClient by m) → OneExchange (lines by).client (lines by).client.exchange asked heard → (n : ℕ) (d : Led)
+    → IsLedBy lines by n d → ⊥
+asks_other lines by asked heard m i none one n d h =
+    elim (subst (λ (x : Option Exchange). OneExchange (lines by).client x asked heard) h.asked one) as (λ _. ⊥) [
       | inl q ↦ elim (subst (In m) q.asked i) as (λ _. ⊥) [
         | inl e ↦ other m none (subst (IsQuestion (Leads n)) (sym e) q.question)
         | inr z ↦ absurd z
