@@ -30,7 +30,7 @@ use Rattle.fs_serial.specs.Cluster.ClientEvent.{Does, Turns, Hears}
 use Rattle.fs_serial.specs.Exchange.{due, is_recall}
 use Rattle.fs_serial.specs.Leading.{IsLedBy, LeadsFor, LeavesLedClient, LedHolds}
 use Rattle.fs_serial.specs.Owed.{ends_in, owed_at, owed_to, question_of, taken_at, taken_leads}
-use Rattle.fs_serial.proofs.Lists.Facts.{session_itself}
+use Rattle.fs_serial.proofs.Lists.Journals.{session_itself}
 use Rattle.fs_serial.proofs.Lists.Traffic.{messages}
 use Rattle.fs_serial.proofs.Transactions.OneOfSession.{all_owed_due, due_both}
 use Rattle.fs_serial.proofs.Transactions.OthersKeep.{client_keeps_led}
