@@ -8,3 +8,5 @@ pub mod CommitPast
 pub mod Owing
 pub mod Applying
 pub mod DecidedKept
+pub mod Deciding
+pub mod ToldParts
