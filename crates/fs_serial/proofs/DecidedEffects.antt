@@ -10,3 +10,6 @@ pub mod Applying
 pub mod DecidedKept
 pub mod Deciding
 pub mod ToldParts
+pub mod FileApart
+pub mod OwnApart
+pub mod GuardsAgain

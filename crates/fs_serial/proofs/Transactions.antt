@@ -13,3 +13,4 @@ pub mod OwnersOfLocks
 pub mod OthersKeep
 pub mod LedDecided
 pub mod LedConcluded
+pub mod FitsAlike
