@@ -186,7 +186,8 @@ module _ (skew greatest : ℕ) (c : Cluster) (h : ClusterStands skew greatest c)
             two_words key front back f g (word c led e f here q) (word c led d g (others_there g i) p)
                 (told_as c led e f here q) (told_as c led d g (others_there g i) p)
                 (key_itself key)
-                (ap (λ x. is_of key (let z : Told = record (word c led d g (others_there g i) p) { key = x } in z)) is ∙ key_itself key) i in
+                (ap (λ x. is_of key (let z : Told = record (word c led d g (others_there g i) p) { key = x } in z)) is
+                ∙ key_itself key) i in
         let one : length (told_of key (telling_of c.in_flight)) ≤ 1 =
             at_most key (led.parts key) (stage_of_key c.servers key) _ (told_of key (telling_of c.in_flight)) (led.stages key) in
         let same : length (told_of key (telling_of c.in_flight)) ≡ length (told_of key (telling_of (front ++ f ∷ back))) =
