@@ -4,6 +4,7 @@ pub mod Counted
 pub mod Counting
 pub mod Times
 pub mod SetAt
+pub mod ByPlace
 pub mod Children
 pub mod Listed
 pub mod Servers

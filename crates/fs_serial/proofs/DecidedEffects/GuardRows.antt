@@ -22,7 +22,7 @@ use Rattle.fs_serial.specs.Sight.{seen}
 use Rattle.fs_serial.proofs.Grants.RowKinds.{In-kept}
 use Rattle.fs_serial.proofs.DecidedEffects.Underway.{LocksStay, going_same, locks_stay, locks_then, place_same, stands_then}
 
-renewed_lock : (n : LeaseNo) (until : ℕ) (r : Row) → (renewed_row n until r).lock ≡ r.lock
+pub renewed_lock : (n : LeaseNo) (until : ℕ) (r : Row) → (renewed_row n until r).lock ≡ r.lock
 renewed_lock n until r = by (has_no n r && nat_lt r.until until)
   where
     by : (b : Bool) → (let y : Row = cond b (record r { until = until }) r in y).lock ≡ r.lock

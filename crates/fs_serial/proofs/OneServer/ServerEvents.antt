@@ -31,6 +31,7 @@ use Rattle.fs_server.specs.declared.event.ServerEvent.{ServerEvent}
 use Rattle.fs_server.specs.declared.event.ServerEvent.TheVariants as event
 use Rattle.fs_server.specs.declared.state.Server.{Server}
 use Rattle.fs_client.specs.Answers.{answer_fits, begins_numbers, fresh_fits, grants_fit, over_after, refusal_fits}
+use Rattle.fs_view.specs.declared.view_lease.ViewLease.{ViewLease}
 use Rattle.fs_client.specs.declared.exchange.Exchange.{Exchange}
 use Rattle.fs_client.specs.declared.exchange.Exchange.TheVariants.{Asks, Renews, Releases, Ships, Leads}
 use Rattle.fs_client.specs.declared.state.Client.{Client}
@@ -72,12 +73,21 @@ at_most a b h = grind (arith, nat_tests)
 
 -- ## The pairs up to the first that is with another server
 
-here_among : (s : Server) (pairs : List (List ℕ × LeaseNo)) (n : LeaseNo) → In n (numbers_in (pairs_here s pairs)) → In n (numbers_in pairs)
+pub here_among : (s : Server) (pairs : List (List ℕ × LeaseNo)) (n : LeaseNo) → In n (numbers_in (pairs_here s pairs)) → In n (numbers_in pairs)
 here_among s [] n i = i
 here_among s (p ∷ ps) n i = elim (is_mine s p.0) as (λ b. In n (numbers_in (cond b (p ∷ pairs_here s ps) [])) → In n (p.1 ∷ numbers_in ps)) [
   | true ↦ λ j. elim j as (λ _. In n (p.1 ∷ numbers_in ps)) [ inl e ↦ inl e | inr k ↦ inr (here_among s ps n k) ]
   | false ↦ λ j. absurd j
 ] i
+
+-- what is given back is said to go back
+pub returned_by : (leases : List ViewLease) (x : Exchange) (pairs : List (List ℕ × LeaseNo)) → IsQuestion x (Release pairs)
+    → ReleasesReturned (Some x) leases → (n : LeaseNo) → In n (numbers_in pairs) → IsReturned leases n
+returned_by leases (Releases to numbers) pairs q r n i = r n (subst (λ ns. In n ns) q i)
+returned_by leases (Asks to items fresh) pairs q r n i = absurd (cc)
+returned_by leases (Renews to numbers) pairs q r n i = absurd q
+returned_by leases (Ships to count) pairs q r n i = absurd q
+returned_by leases (Leads to) pairs q r n i = absurd q
 
 few_here : (s : Server) (pairs : List (List ℕ × LeaseNo)) → length (numbers_in (pairs_here s pairs)) ≤ length (numbers_in pairs)
 few_here s [] = omega arith
@@ -178,13 +188,6 @@ module _ (greatest : ℕ) (w : World) (by : Session) (h : WorldHolds greatest w)
   release_fits (Ships to count) pairs e q = absurd q
   release_fits (Leads to) pairs e q = absurd q
 
-  returned_by : (x : Exchange) (pairs : List (List ℕ × LeaseNo)) → IsQuestion x (Release pairs) → ReleasesReturned (Some x) c.view.leases → (n : LeaseNo) → In n (numbers_in pairs) → IsReturned c.view.leases n
-  returned_by (Releases to numbers) pairs q r n i = r n (subst (λ ns. In n ns) q i)
-  returned_by (Asks to items fresh) pairs q r n i = absurd (cc)
-  returned_by (Renews to numbers) pairs q r n i = absurd q
-  returned_by (Ships to count) pairs q r n i = absurd q
-  returned_by (Leads to) pairs q r n i = absurd q
-
   -- a row with the number of a lease that goes back is the session's
   its_row : (n : LeaseNo) → IsReturned c.view.leases n → (r : Row) → In r s.rows → r.no ≡ n → r.session ≡ by
   its_row n back r i e = ((h.exchanges by).returns back.kept back.among back.leaving).own r i (e ∙ sym back.number)
@@ -196,7 +199,7 @@ module _ (greatest : ℕ) (w : World) (by : Session) (h : WorldHolds greatest w)
       let t : Server = record s { rows = released_rows ns s.rows } in
       let a = Released (length ns) e in
       let o = asked greatest w t w.journal by (Release pairs) a up h in
-      let back = returned_by o.exchange pairs o.question (subst (λ x. ReleasesReturned x c.view.leases) o.stands (h.exchanges by).released) in
+      let back = returned_by c.view.leases o.exchange pairs o.question (subst (λ x. ReleasesReturned x c.view.leases) o.stands (h.exchanges by).released) in
       let others = others_in greatest w by (Release pairs) (subst (λ ms. In (Release pairs) ms) (sym up) (inl refl)) h f in
       subst (λ js. WorldStands greatest (record { server = t; counts = w.counts; decided = w.decided; journal = js; replied = w.replied; ends = with_answer by a (without_question by w.ends) })) (sym (append-nil w.journal)) (
         world_answered greatest w t w.journal by (Release pairs) a up h w.decided w.replied refl h.clock (released_later (given_by w.counts s) ns s.rows)

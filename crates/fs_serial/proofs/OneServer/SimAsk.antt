@@ -210,7 +210,7 @@ recalls_same : (rest : Rest) (s : Server) (e : End) → IsApart rest s → HasBl
 recalls_same rest s (end.Wait n) a b = ap (recall_of n) (sym (found_here rest s a b.0 n b.1 b.2))
 recalls_same rest s e a b = refl
 
-asked_quiet : (k : ℕ) (e : End) (rows : List Row) → in_flight_from k (recalls_at e rows) ≡ []
+pub asked_quiet : (k : ℕ) (e : End) (rows : List Row) → in_flight_from k (recalls_at e rows) ≡ []
 asked_quiet k (end.Wait n) rows = recall_alone k n (find (has_no n) rows)
 asked_quiet k e rows = refl
 

@@ -111,7 +111,7 @@ recalls_same rest s (n ∷ ns) a h =
     let r : IsRowed n s.rows = h n (inl refl) in
     ap₂ (λ o more. recall_of n o ++ more) (sym (found_here rest s a r.0 n r.1 r.2)) (recalls_same rest s ns a (λ m i. h m (inr i)))
 
-reaps_quiet : (k : ℕ) (rows : List Row) (ns : List LeaseNo) → in_flight_from k (recalls_for rows ns) ≡ []
+pub reaps_quiet : (k : ℕ) (rows : List Row) (ns : List LeaseNo) → in_flight_from k (recalls_for rows ns) ≡ []
 reaps_quiet k rows [] = refl
 reaps_quiet k rows (n ∷ ns) = recall_quiet k n (find (has_no n) rows) (recalls_for rows ns) ∙ reaps_quiet k rows ns
 

@@ -51,7 +51,9 @@ there {X = X} xs i h = elim (slice_get_cases xs i).1 as (λ _. (x : X) × (slice
 
 any_mapped : {X Y : Type 0} (f : X → Y) (test : X → Bool) (xs : List X) → list_any test xs ≡ is_some (option_map f (find test xs))
 any_mapped f test [] = refl
-any_mapped f test (x ∷ xs) = elim (test x) as (λ b. (b || list_any test xs) ≡ is_some (option_map f (cond b (Some x) (find test xs)))) [ true ↦ refl | false ↦ any_mapped f test xs ]
+any_mapped f test (x ∷ xs) =
+    elim (test x) as
+    (λ b. (b || list_any test xs) ≡ is_some (option_map f (cond b (Some x) (find test xs)))) [ true ↦ refl | false ↦ any_mapped f test xs ]
 
 -- ## A part of which something is awaited, at its leader
 
@@ -70,14 +72,18 @@ pub record IsAwaitedBy (number : ℕ) (found : Option Ending) (at : ℕ) : Type 
 
 never_asked : (number at : ℕ) (xs : List (ℕ × ℕ)) → awaited_stage number xs ≡ Asked at → ⊥
 never_asked number at [] e = absurd (cc)
-never_asked number at (x ∷ xs) e = elim (x.0 == number) as (λ b. cond b (Awaited x.1) (awaited_stage number xs) ≡ Asked at → ⊥) [ true ↦ λ q. absurd (cc) | false ↦ λ q. never_asked number at xs q ] e
+never_asked number at (x ∷ xs) e =
+    elim (x.0 == number) as
+    (λ b. cond b (Awaited x.1) (awaited_stage number xs) ≡ Asked at → ⊥) [ true ↦ λ q. absurd (cc) | false ↦
+    λ q. never_asked number at xs q ] e
 
 pub asked_by : (number at : ℕ) (l : Option Leading) (x : Option Ending) → stage_in number l x ≡ Asked at → IsAskedBy number l at
 asked_by number at None None e = absurd (cc)
 asked_by number at None (Some x) e = absurd (never_asked number at x.awaits e)
 asked_by number at (Some l) x e = of (slice_get l.at number) (slice_get l.leader.votes number) refl refl e
   where
-    of : (o : Option ℕ) (v : Option (Option Vote)) → slice_get l.at number ≡ o → slice_get l.leader.votes number ≡ v → stage_by o v ≡ Asked at → IsAskedBy number (Some l) at
+    of : (o : Option ℕ) (v : Option (Option Vote)) → slice_get l.at number ≡ o → slice_get l.leader.votes number ≡ v
+        → stage_by o v ≡ Asked at → IsAskedBy number (Some l) at
     of None None p q h = absurd (cc)
     of None (Some v) p q h = absurd (cc)
     of (Some j) None p q h = absurd (cc)
@@ -98,7 +104,10 @@ awaited_by number at (Some l) x e = of (slice_get l.at number) (slice_get l.lead
 
 pub is_awaited : (number at : ℕ) (xs : List (ℕ × ℕ)) → awaited_stage number xs ≡ Awaited at → awaits_done number xs ≡ true
 is_awaited number at [] e = absurd (cc)
-is_awaited number at (x ∷ xs) e = elim (x.0 == number) as (λ b. cond b (Awaited x.1) (awaited_stage number xs) ≡ Awaited at → (b || awaits_done number xs) ≡ true) [ true ↦ λ q. refl | false ↦ λ q. is_awaited number at xs q ] e
+is_awaited number at (x ∷ xs) e =
+    elim (x.0 == number) as
+    (λ b. cond b (Awaited x.1) (awaited_stage number xs) ≡ Awaited at → (b || awaits_done number xs) ≡ true) [ true ↦ λ q. refl | false ↦
+    λ q. is_awaited number at xs q ] e
 
 -- ## A word that comes to a server
 
@@ -160,22 +169,30 @@ concluded_known l sent s = of _
     of (led.Again w) e = absurd (cc)
 
 counted_known : (number : ℕ) (v : Vote) (l : Leading) (s : Server) → IsKnown (counts number v l s)
-counted_known number v l s = elim (is_full (with_vote number v l).leader.votes) as (λ b. IsKnown (cond b (concludes (with_vote number v l) [] s) (waits (note.Waits l.leader.txn) (with_vote number v l) [] s))) [
+counted_known number v l s =
+    elim (is_full (with_vote number v l).leader.votes) as
+    (λ b. IsKnown (cond b (concludes (with_vote number v l) [] s) (waits (note.Waits l.leader.txn) (with_vote number v l) [] s))) [
   | true ↦ concluded_known (with_vote number v l) [] s
   | false ↦ λ e. absurd (cc)
 ]
 
 home_known : (number : ℕ) (p : Part) (l : Leading) (s : Server) → IsKnown (comes_home number p l s)
 home_known number p l s =
-    elim (is_mine s p.file) as (λ b. IsKnown (cond b (counts_own number p (vote_here s l.leader.session p) l s) (seeks number (server_of s.map p.file) p l s))) [
-      | true ↦ counted_known number (vote_here s l.leader.session p) (asked_at number s.me l) (after_own_vote l.leader.txn p (vote_here s l.leader.session p) s)
+    elim (is_mine s p.file) as
+        (λ b. IsKnown (cond b (counts_own number p (vote_here s l.leader.session p) l s) (seeks number (server_of s.map p.file) p l s))) [
+      | true ↦
+          counted_known number (vote_here s l.leader.session p) (asked_at number s.me l)
+          (after_own_vote l.leader.txn p (vote_here s l.leader.session p) s)
       | false ↦ λ e. absurd (cc)
     ]
 
 sent_known : (number to : ℕ) (p : Part) (l : Leading) (s : Server) → IsKnown (sent_on number to (Some p) l s)
-sent_known number to p l s = elim (to == s.me) as (λ b. IsKnown (cond b (comes_home number p l s) (seeks number to p l s))) [ true ↦ home_known number p l s | false ↦ λ e. absurd (cc) ]
+sent_known number to p l s =
+    elim (to == s.me) as
+    (λ b. IsKnown (cond b (comes_home number p l s) (seeks number to p l s))) [ true ↦ home_known number p l s | false ↦ λ e. absurd (cc) ]
 
-voted_known : (number : ℕ) (v : Vote) (p : Part) (l : Leading) (s : Server) → slice_get l.leader.parts number ≡ Some p → IsKnown (voted number v l s)
+voted_known : (number : ℕ) (v : Vote) (p : Part) (l : Leading) (s : Server) → slice_get l.leader.parts number ≡ Some p
+    → IsKnown (voted number v l s)
 voted_known number Yes p l s e = counted_known number Yes l s
 voted_known number (Ended n u w) p l s e = counted_known number (Ended n u w) l s
 voted_known number (PathsOut n) p l s e = counted_known number (PathsOut n) l s
@@ -194,30 +211,36 @@ module _ (k from : ℕ) (c : Cluster) (s : Server) (at : slice_get c.servers k �
 
   -- ## Where its part stands
 
-  pub prepare_here : (m : PrepareMsg) → Comes k from c (peer.Prepare m) → IsPrepareHere d from k (key_of m.txn m.number) (record { session = m.session; part = m.part })
+  pub prepare_here : (m : PrepareMsg) → Comes k from c (peer.Prepare m)
+      → IsPrepareHere d from k (key_of m.txn m.number) (record { session = m.session; part = m.part })
   prepare_here m comes =
       let key : Key = key_of m.txn m.number in
       let asked : Wanted = record { session = m.session; part = m.part } in
       let told : Told = told_with from k (key, Prepare asked) in
-      let q : IsPreparingWord d key told = preparing_word d key told refl held.stages (word_there (peer.Prepare m) (key, Prepare asked) refl comes) asked refl in
+      let q : IsPreparingWord d key told =
+          preparing_word d key told refl held.stages (word_there (peer.Prepare m) (key, Prepare asked) refl comes) asked refl in
       let to : k ≡ q.at = ap (λ (x : Told). x.to) q.is in
       let word : Prepare asked ≡ Prepare (d.parts key) = ap (λ (x : Told). x.word) q.is in
       let same : d.parts key ≡ asked = cc in
-      record { leader = ap (λ (x : Told). x.from) q.is; stage = q.stage ∙ ap Asked (sym to); elsewhere = ap (λ z. z == key.txn.server) to ∙ q.elsewhere; wanted = same; nowhere = q.nowhere }
+      record { leader = ap (λ (x : Told). x.from) q.is; stage = q.stage ∙ ap Asked (sym to); elsewhere =
+          ap (λ z. z == key.txn.server) to ∙ q.elsewhere; wanted = same; nowhere = q.nowhere }
 
   pub vote_here_is : (m : VotedMsg) → Comes k from c (peer.Vote m) → IsVoteHere d from k (key_of m.txn m.number)
   vote_here_is m comes =
       let key : Key = key_of m.txn m.number in
       let told : Told = told_with from k (key, Voted m.vote) in
-      let q : IsVotedWord d key told m.vote = voted_word d key told refl held.stages (word_there (peer.Vote m) (key, Voted m.vote) refl comes) m.vote refl in
+      let q : IsVotedWord d key told m.vote =
+          voted_word d key told refl held.stages (word_there (peer.Vote m) (key, Voted m.vote) refl comes) m.vote refl in
       let by : from ≡ q.at = ap (λ (x : Told). x.from) q.is in
-      record { leader = ap (λ (x : Told). x.to) q.is; stage = q.stage ∙ ap Asked (sym by); elsewhere = ap (λ z. z == key.txn.server) by ∙ q.elsewhere }
+      record { leader = ap (λ (x : Told). x.to) q.is; stage = q.stage ∙ ap Asked (sym by); elsewhere =
+          ap (λ z. z == key.txn.server) by ∙ q.elsewhere }
 
   pub decide_here : (m : DecideMsg) → Comes k from c (peer.Decide m) → IsDecideHere d from k (key_of m.txn m.number)
   decide_here m comes =
       let key : Key = key_of m.txn m.number in
       let told : Told = told_with from k (key, Decide m.effects) in
-      let q : IsDecidingWord d key told = deciding_word d key told refl held.stages (word_there (peer.Decide m) (key, Decide m.effects) refl comes) m.effects refl in
+      let q : IsDecidingWord d key told =
+          deciding_word d key told refl held.stages (word_there (peer.Decide m) (key, Decide m.effects) refl comes) m.effects refl in
       let to : k ≡ q.at = ap (λ (x : Told). x.to) q.is in
       record {
         leader = ap (λ (x : Told). x.from) q.is;
@@ -232,18 +255,23 @@ module _ (k from : ℕ) (c : Cluster) (s : Server) (at : slice_get c.servers k �
       let told : Told = told_with from k (key, Done) in
       let q : IsDoneWord d key told = done_word d key told refl held.stages (word_there (peer.Done m) (key, Done) refl comes) refl in
       let by : from ≡ q.at = ap (λ (x : Told). x.from) q.is in
-      record { leader = ap (λ (x : Told). x.to) q.is; stage = q.stage ∙ ap Awaited (sym by); elsewhere = ap (λ z. z == key.txn.server) by ∙ q.elsewhere; nowhere = q.nowhere }
+      record { leader = ap (λ (x : Told). x.to) q.is; stage = q.stage ∙ ap Awaited (sym by); elsewhere =
+          ap (λ z. z == key.txn.server) by ∙ q.elsewhere; nowhere = q.nowhere }
 
   -- ## It is awaited
 
   -- whether the part waits here
   pub is_ready : (key : Key) → is_prepared key.txn key.part s.prepared ≡ is_some (prepared_in c.servers k key)
-  is_ready key = any_mapped wanted_of (is_part key.txn key.part) s.prepared ∙ sym (ap (λ o. is_some (option_map wanted_of (find (is_part key.txn key.part) (ready_at o)))) at)
+  is_ready key =
+      any_mapped wanted_of (is_part key.txn key.part) s.prepared
+      ∙ sym (ap (λ o. is_some (option_map wanted_of (find (is_part key.txn key.part) (ready_at o)))) at)
 
-  pub prepare_awaited : (m : PrepareMsg) → Comes k from c (peer.Prepare m) → prepare_step from m s ≡ votes (vote_here s m.session m.part) from m s
+  pub prepare_awaited : (m : PrepareMsg) → Comes k from c (peer.Prepare m)
+      → prepare_step from m s ≡ votes (vote_here s m.session m.part) from m s
   prepare_awaited m comes =
       let key : Key = key_of m.txn m.number in
-      ap (λ b. cond b (strange s) (votes (vote_here s m.session m.part) from m s)) (is_ready key ∙ ap is_some ((prepare_here m comes).nowhere k))
+      ap (λ b. cond b (strange s) (votes (vote_here s m.session m.part) from m s))
+          (is_ready key ∙ ap is_some ((prepare_here m comes).nowhere k))
 
   pub decide_awaited : (m : DecideMsg) → Comes k from c (peer.Decide m) → decide_step from m s ≡ applies from m s
   decide_awaited m comes =
@@ -251,22 +279,27 @@ module _ (k from : ℕ) (c : Cluster) (s : Server) (at : slice_get c.servers k �
       ap (λ b. cond b (applies from m s) (strange s)) (is_ready key ∙ ap is_some (decide_here m comes).ready.here)
 
   -- the stage of a part of its own transactions
-  own_stage : (key : Key) (x : Stage) → k ≡ key.txn.server → d.stages key ≡ x → stage_in key.part (leading_of key.txn s.leading) (ending_of key.txn s.ending) ≡ x
+  own_stage : (key : Key) (x : Stage) → k ≡ key.txn.server → d.stages key ≡ x
+      → stage_in key.part (leading_of key.txn s.leading) (ending_of key.txn s.ending) ≡ x
   own_stage key x mine e = sym (stage_was c.servers k s s at key (ap (λ z. z == k) (sym mine) ∙ itself k)) ∙ e
 
   pub vote_asked : (m : VotedMsg) → Comes k from c (peer.Vote m) → IsAskedBy m.number (leading_of m.txn s.leading) from
   vote_asked m comes =
       let q = vote_here_is m comes in
-      asked_by m.number from (leading_of m.txn s.leading) (ending_of m.txn s.ending) (own_stage (key_of m.txn m.number) (Asked from) q.leader q.stage)
+      asked_by m.number from (leading_of m.txn s.leading) (ending_of m.txn s.ending)
+          (own_stage (key_of m.txn m.number) (Asked from) q.leader q.stage)
 
   pub vote_awaited : (m : VotedMsg) → Comes k from c (peer.Vote m) → IsAwaited s m
   vote_awaited m comes =
       let q = vote_asked m comes in
       let l : Leading = q.leading in
       let i : In l s.leading = (found _ s.leading l q.is).0 in
-      let within : m.number < length l.leader.parts = subst (λ n. m.number < n) ((held.leading s (In-got c.servers k s at) l i).votes) (slice_get_within l.leader.votes m.number None q.empty) in
+      let within : m.number < length l.leader.parts =
+          subst (λ n. m.number < n) ((held.leading s (In-got c.servers k s at) l i).votes)
+          (slice_get_within l.leader.votes m.number None q.empty) in
       let p = there l.leader.parts m.number within in
-      record { leading = l; led = q.is; among = i; awaited = joined _ _ (lt-ltb m.number (length l.leader.parts) within) (ap is_empty_place q.empty); wanted = p.0; part = p.1 }
+      record { leading = l; led = q.is; among = i; awaited =
+          joined _ _ (lt-ltb m.number (length l.leader.parts) within) (ap is_empty_place q.empty); wanted = p.0; part = p.1 }
 
   pub vote_is : (m : VotedMsg) (q : IsAwaited s m) → vote_step m s ≡ voted m.number m.vote q.leading s
   vote_is m q = ap (λ o. vote_of o m s) q.led ∙ ap (λ b. cond b (voted m.number m.vote q.leading s) (strange s)) q.awaited
@@ -274,19 +307,25 @@ module _ (k from : ℕ) (c : Cluster) (s : Server) (at : slice_get c.servers k �
   pub done_awaited : (m : DoneMsg) → Comes k from c (peer.Done m) → IsAwaitedBy m.number (ending_of m.txn s.ending) from
   done_awaited m comes =
       let q = done_here m comes in
-      awaited_by m.number from (leading_of m.txn s.leading) (ending_of m.txn s.ending) (own_stage (key_of m.txn m.number) (Awaited from) q.leader q.stage)
+      awaited_by m.number from (leading_of m.txn s.leading) (ending_of m.txn s.ending)
+          (own_stage (key_of m.txn m.number) (Awaited from) q.leader q.stage)
 
-  pub done_is : (m : DoneMsg) (q : IsAwaitedBy m.number (ending_of m.txn s.ending) from) → done_step m s ≡ done_with (without_done m.number q.ending) (without_done m.number q.ending).awaits s
+  pub done_is : (m : DoneMsg) (q : IsAwaitedBy m.number (ending_of m.txn s.ending) from)
+      → done_step m s ≡ done_with (without_done m.number q.ending) (without_done m.number q.ending).awaits s
   done_is m q =
       ap (λ o. done_of o m s) q.is
-      ∙ ap (λ b. cond b (done_with (without_done m.number q.ending) (without_done m.number q.ending).awaits s) (strange s)) (is_awaited m.number from q.ending.awaits q.stage)
+      ∙ ap (λ b. cond b (done_with (without_done m.number q.ending) (without_done m.number q.ending).awaits s) (strange s))
+          (is_awaited m.number from q.ending.awaits q.stage)
 
   pub words_known : (m : PeerMsg) → Comes k from c m → (word_in m ≡ None → ⊥) → IsKnown (word_step from m s)
   words_known (peer.Parcel p) comes word = absurd (word refl)
   words_known (peer.Prepare m) comes word = subst IsKnown (sym (prepare_awaited m comes)) (λ e. absurd (cc))
-  words_known (peer.Vote m) comes word = let q = vote_awaited m comes in subst IsKnown (sym (vote_is m q)) (voted_known m.number m.vote q.wanted q.leading s q.part)
+  words_known (peer.Vote m) comes word = let q = vote_awaited m comes in
+      subst IsKnown (sym (vote_is m q)) (voted_known m.number m.vote q.wanted q.leading s q.part)
   words_known (peer.Decide m) comes word = subst IsKnown (sym (decide_awaited m comes)) (λ e. absurd (cc))
-  words_known (peer.Done m) comes word = let q = done_awaited m comes in subst IsKnown (sym (done_is m q)) (done_known (without_done m.number q.ending) _ s)
+  words_known (peer.Done m) comes word = let q = done_awaited m comes in
+      subst IsKnown (sym (done_is m q)) (done_known (without_done m.number q.ending) _ s)
 
-pub words_awaited : (k from : ℕ) (c : Cluster) (s : Server) → slice_get c.servers k ≡ Some s → (m : PeerMsg) → Comes k from c m → LedHolds c → (word_in m ≡ None → ⊥) → (word_step from m s).out.note ≢ note.Strange
+pub words_awaited : (k from : ℕ) (c : Cluster) (s : Server) → slice_get c.servers k ≡ Some s → (m : PeerMsg) → Comes k from c m → LedHolds c
+    → (word_in m ≡ None → ⊥) → (word_step from m s).out.note ≢ note.Strange
 words_awaited k from c s at m comes held word = words_known k from c s at held m comes word

@@ -25,10 +25,12 @@ decided_told servers m = decided_word servers m.key.txn m.word
 abbrev all_told : List Server → List Told → List Decided
 all_told servers ms = flat_map (decided_told servers) ms
 
-one_told : (servers : List Server) (f : InFlight) (ms : List Told) → decided_by servers f.message ++ all_told servers ms ≡ all_told servers (cons_option (told_in f) ms)
+one_told : (servers : List Server) (f : InFlight) (ms : List Told)
+    → decided_by servers f.message ++ all_told servers ms ≡ all_told servers (cons_option (told_in f) ms)
 one_told servers f ms = by_message f.message
   where
-    by_message : (m : PeerMsg) → decided_by servers m ++ all_told servers ms ≡ all_told servers (cons_option (option_map (told_with f.from f.to) (word_in m)) ms)
+    by_message : (m : PeerMsg) → decided_by servers m ++ all_told servers ms ≡ all_told servers
+        (cons_option (option_map (told_with f.from f.to) (word_in m)) ms)
     by_message (peer.Parcel p) = refl
     by_message (peer.Prepare p) = refl
     by_message (peer.Vote v) = refl
@@ -48,5 +50,8 @@ same_told ss ts e m = by_word m.word
     by_word (Decide es) = ap (λ o. decided_at o es) (e m.key.txn)
     by_word Done = refl
 
-pub decided_same : (ss ts : List Server) (fs gs : List InFlight) → ((txn : TxnNo) → ended_in ts txn ≡ ended_in ss txn) → telling_of gs ≡ telling_of fs → decided_among ts gs ≡ decided_among ss fs
-decided_same ss ts fs gs e t = told_is ts gs ∙ ap (λ (f : Told → List Decided). flat_map f (telling_of gs)) (fun_ext (same_told ss ts e)) ∙ ap (all_told ss) t ∙ sym (told_is ss fs)
+pub decided_same : (ss ts : List Server) (fs gs : List InFlight) → ((txn : TxnNo) → ended_in ts txn ≡ ended_in ss txn)
+    → telling_of gs ≡ telling_of fs → decided_among ts gs ≡ decided_among ss fs
+decided_same ss ts fs gs e t =
+    told_is ts gs ∙ ap (λ (f : Told → List Decided). flat_map f (telling_of gs)) (fun_ext (same_told ss ts e)) ∙ ap (all_told ss) t
+    ∙ sym (told_is ss fs)

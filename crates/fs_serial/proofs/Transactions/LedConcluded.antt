@@ -1,11 +1,10 @@
 -- A leader decides a transaction: all that holds of transactions stays, where what is told then is as it has to be.
 use mathlib.Core.Path.{fun_ext}
-use Rattle.std.proofs.Common.{◌≡◌, ◌==◌, ◌≤◌, ◌<◌, ℕ, zero, suc, Bool, true, false, not, List, [], ◌∷◌, ◌++◌, length, map, refl, sym, ap, ap₂, ◌∙◌, subst, cond, inl, inr, append-nil, arith}
+use Rattle.std.proofs.Common.{◌≡◌, ◌==◌, ◌≤◌, ℕ, Bool, true, false, not, List, [], ◌∷◌, ◌++◌, length, map, refl, sym, ap, ap₂, ◌∙◌, subst, cond, inl, inr, append-nil, arith}
 use Rattle.std.specs.Prelude.{◌≢◌, Option, Some, None, is_some, option_map, slice_get}
 use Rattle.std.specs.List.{find, flat_map}
-use Rattle.std.proofs.lemmas.Bool.{eqb-false}
+use Rattle.std.proofs.lemmas.Bool.{not-true}
 use Rattle.std.proofs.lemmas.List.Elements.{filter-append}
-use Rattle.std.proofs.lemmas.Option.{slice_get_within}
 use Rattle.fs_ident.specs.In.{In}
 use Rattle.fs_ident.specs.declared.actor.Session.{Session}
 use Rattle.fs_ident.specs.declared.actor.TxnNo.{TxnNo}
@@ -21,7 +20,6 @@ use Rattle.fs_field.specs.declared.vote.Vote.TheVariants.{Yes, Ended, Moved, Pat
 use Rattle.fs_model.specs.declared.op.Op.{Op}
 use Rattle.fs_model.specs.declared.op.Op.TheVariants as op
 use Rattle.fs_model.specs.declared.reply.Reply.TheVariants as reply
-use Rattle.fs_msg.specs.declared.msg.Msg.TheVariants as msg
 use Rattle.fs_parcel.proofs.Both.{passing}
 use Rattle.fs_record.specs.declared.led_end.LedEnd.{LedEnd}
 use Rattle.fs_record.specs.declared.led_end.LedEnd.TheVariants as end
@@ -37,10 +35,8 @@ use Rattle.fs_txn.specs.Deciding.{again, agreed, commit, decision, end_of_place,
 use Rattle.fs_txn.specs.Leading.{awaited_stage, elsewhere, ending_of, keeps_till_done, leading_of, said_by, stage_by, stage_in, yes_parts}
 use Rattle.fs_txn.specs.Locks.{Agreed, Kept, LocksHold, rows_unlocked, without_kept, without_txn}
 use Rattle.fs_txn.specs.Ready.{agreed_of, is_part}
-use Rattle.fs_txn.specs.Stages.{IsHeldAt, IsStage, IsVoted, Key, Stage, StagesHold, Told, Wanted, is_of, is_yes, told_of, word_to}
-use Rattle.fs_txn.specs.Stages.IsAsking.{coming, refused, granted}
-use Rattle.fs_txn.specs.Stages.IsEnding.{decided, done}
-use Rattle.fs_txn.specs.Stages.Stage.{Unknown, Asked, Counted, Awaited}
+use Rattle.fs_txn.specs.Stages.{IsStage, Key, Stage, StagesHold, Told, Wanted, is_of, told_of, word_to}
+use Rattle.fs_txn.specs.Stages.Stage.{Unknown, Counted, Awaited}
 use Rattle.fs_txn.specs.Stages.Word.{Decide}
 use Rattle.fs_txn.specs.Telling.{with_key}
 use Rattle.fs_txn.specs.Votes.{Votes, is_full}
@@ -56,39 +52,13 @@ use Rattle.fs_txn.proofs.Telling.{drops, tells}
 use Rattle.fs_serial.specs.Cluster.{Cluster}
 use Rattle.fs_serial.specs.Conclusions.{after_concluded}
 use Rattle.fs_serial.specs.Leading.{IsEnded, IsLeading, IsLedBy, IsToldOf, LedHolds}
-use Rattle.fs_serial.specs.Words.{desks_of, ending_at, kept_at, key_of, leading_at, prepared_in, ready_at, said_at, stage_of_key, telling_of, wanted_of}
+use Rattle.fs_serial.specs.Words.{desks_of, ended_in, ending_at, kept_at, key_of, leading_at, prepared_in, ready_at, said_at, stage_of_key, telling_of, wanted_of}
 use Rattle.fs_serial.proofs.Transactions.Decisions.{IsTold, awaited_first, decision_word, decision_words, first_awaited, is_told, none_of_words, words_of, yes_said}
 use Rattle.fs_serial.proofs.Transactions.Decisions.IsTold.{told, untold}
-use Rattle.fs_serial.proofs.Transactions.Desks.{FilesApart, each_after, ended_then, files_still, is_at, leading_then, prepared_set, same_at, telling_append, told_then, was_at}
+use Rattle.fs_serial.proofs.Transactions.Desks.{FilesApart, each_after, ended_then, files_still, is_at, leading_then, not_at_home, prepared_set, same_at, telling_append, told_then, was_at}
 use Rattle.fs_serial.proofs.Transactions.OthersKeep.{ended_waits, leading_waits, sent_client, waits_alike}
-use Rattle.fs_serial.proofs.Transactions.Tables.{In_some, all_stay, ending_kept, ending_other, ending_over, ending_set, ending_there, in_kept, in_with_ending, in_without_leading, kept_there, leading_gone, leading_left, locks_alike, said_its, said_left, txn_apart}
-
--- ## Parts of a server's own transactions
-
-other_server : (p k : ℕ) → (p == k) ≡ false → k ≢ p
-other_server p k e q = eqb-false p k e (sym q)
-
--- the leader itself keeps none of its parts ready
-not_at_home : (key : Key) (w : Wanted) (st : Stage) (prepared : ℕ → Option Wanted) (words : List Told) → IsStage key w st prepared words → prepared key.txn.server ≡ None
-not_at_home key w Unknown prepared words i = i.1 key.txn.server
-not_at_home key w (Asked p) prepared words i = elim i.1 as (λ _. prepared key.txn.server ≡ None) [
-  | coming e none ↦ none key.txn.server
-  | refused v against e none ↦ none key.txn.server
-  | granted e alone ↦ alone.others key.txn.server (other_server p key.txn.server i.0)
-]
-not_at_home key w (Counted p v) prepared words i = by (is_yes v) i.1
-  where
-    held : (b : Bool) → (p == key.txn.server) ≡ b → IsHeldAt b p w prepared → prepared key.txn.server ≡ None
-    held true e none = none key.txn.server
-    held false e alone = alone.others key.txn.server (other_server p key.txn.server e)
-
-    by : (b : Bool) → IsVoted b key p w prepared → prepared key.txn.server ≡ None
-    by false none = none key.txn.server
-    by true h = held (p == key.txn.server) refl h
-not_at_home key w (Awaited p) prepared words i = elim i.1 as (λ _. prepared key.txn.server ≡ None) [
-  | decided es e alone ↦ alone.others key.txn.server (other_server p key.txn.server i.0)
-  | done e none ↦ none key.txn.server
-]
+use Rattle.fs_serial.proofs.Transactions.OwnersOfLocks.{in_range, said_session, session_by, session_of}
+use Rattle.fs_serial.proofs.Transactions.Tables.{all_stay, ending_kept, ending_other, ending_over, ending_set, ending_there, in_kept, in_with_ending, in_without_leading, kept_there, leading_gone, leading_left, locks_alike, said_left, txn_apart}
 
 -- ## Votes and ends
 
@@ -107,7 +77,8 @@ first_fits : (d : Led) (votes : Votes) (e : LedEnd) → first_end votes ≡ Some
 first_fits d [] e h = absurd (cc h)
 first_fits d (v ∷ vs) e h = by (end_of_place v) refl h (λ g. first_fits d vs e g)
   where
-    by : (o : Option LedEnd) → end_of_place v ≡ o → or_else o (first_end vs) ≡ Some e → (first_end vs ≡ Some e → end_fits (Some d) e ≡ true) → end_fits (Some d) e ≡ true
+    by : (o : Option LedEnd) → end_of_place v ≡ o → or_else o (first_end vs) ≡ Some e → (first_end vs ≡ Some e → end_fits (Some d) e ≡ true)
+        → end_fits (Some d) e ≡ true
     by (Some f) q g rest = vote_fits d v e (q ∙ g)
     by None q g rest = rest g
 
@@ -117,13 +88,16 @@ can_end (op.Rename sdir sname ddir dname) h = refl
 can_end o h = absurd (cc h)
 
 agreed_fits : (l : Leader) (d : Led) → l.op ≡ d.entry.op → is_led l.op ≡ true → end_fits (Some d) (end_of_decision (agreed l None)) ≡ true
-agreed_fits l d same h = elim (needs_path l.mode l.op) as (λ b. end_fits (Some d) (end_of_decision (cond b (again why.Changed) (commit l (reply_of l.op)))) ≡ true) [
+agreed_fits l d same h = elim (needs_path l.mode l.op) as
+    (λ b. end_fits (Some d) (end_of_decision (cond b (again why.Changed) (commit l (reply_of l.op)))) ≡ true) [
   | true ↦ refl
   | false ↦ ap (λ o. can_end_with o (reply_of l.op)) (sym same) ∙ can_end l.op h
 ]
 
-decision_fits : (l : Leader) (d : Led) → l.op ≡ d.entry.op → is_led l.op ≡ true → end_fits (Some d) (end_of_decision (decision l None)) ≡ true
-decision_fits l d same h = elim (first_end l.votes) as (λ o. first_end l.votes ≡ o → end_fits (Some d) (end_of_decision (unless_ended o (agreed l None))) ≡ true) [
+decision_fits : (l : Leader) (d : Led) → l.op ≡ d.entry.op → is_led l.op ≡ true
+    → end_fits (Some d) (end_of_decision (decision l None)) ≡ true
+decision_fits l d same h = elim (first_end l.votes) as
+    (λ o. first_end l.votes ≡ o → end_fits (Some d) (end_of_decision (unless_ended o (agreed l None))) ≡ true) [
   | None ↦ λ e. agreed_fits l d same h
   | Some f ↦ λ e. first_fits d l.votes f e
 ] refl
@@ -134,23 +108,7 @@ keeps_end (Commit reply.Renamed effects) h = refl
 keeps_end (Commit r effects) h = absurd (cc h)
 keeps_end (Abort e) h = absurd (cc h)
 
-denied : (b : Bool) → not b ≡ true → b ≡ false
-denied true h = sym h
-denied false h = refl
-
-no_option : {X Y : Type 0} (f : X → Y) (o : Option X) → option_map f o ≡ None → o ≡ None
-no_option f None h = refl
-no_option f (Some x) h = absurd (cc h)
-
 -- ## The decision
-
-there_is : {X : Type 0} (xs : List X) (n : ℕ) → n < length xs → (x : X) × (slice_get xs n ≡ Some x)
-there_is [] n lt = absurd (omega (arith, lt))
-there_is (x ∷ xs) zero lt = (x, refl)
-there_is (x ∷ xs) (suc n) lt = there_is xs n (omega (arith, lt))
-
-as_long : {X Y : Type 0} (xs : List X) (ys : List Y) (n : ℕ) (x : X) → length xs ≡ length ys → slice_get xs n ≡ Some x → (y : Y) × (slice_get ys n ≡ Some y)
-as_long xs ys n x e h = there_is ys n (subst (λ m. n < m) e (slice_get_within xs n x h))
 
 -- a part of a transaction of which all have voted is counted, or there is none of that number
 pub data WasCounted (stage : Stage) (asked : Option ℕ) (vote : Option (Option Vote)) : Type 0 where
@@ -163,7 +121,8 @@ was_counted (Some p) None n = no_part refl
 was_counted (Some p) (Some None) n = absurd (n refl)
 was_counted (Some p) (Some (Some v)) n = counted p v refl refl refl
 
-module _ (k : ℕ) (c : Cluster) (s : Server) (at : slice_get c.servers k ≡ Some s) (held : LedHolds c) (me : s.me ≡ k) (l : Leading) (led : leading_of l.leader.txn s.leading ≡ Some l) (full : is_full l.leader.votes ≡ true) where
+module _ (k : ℕ) (c : Cluster) (s : Server) (at : slice_get c.servers k ≡ Some s) (held : LedHolds c) (me : s.me ≡ k) (l : Leading)
+    (led : leading_of l.leader.txn s.leading ≡ Some l) (full : is_full l.leader.votes ≡ true) where
   abbrev t : TxnNo
   t = l.leader.txn
 
@@ -205,7 +164,8 @@ module _ (k : ℕ) (c : Cluster) (s : Server) (at : slice_get c.servers k ≡ So
 
   -- ## Where its parts stand
 
-  over : (o : List (ℕ × ℕ)) (n : ℕ) (z : Ending) → z.awaits ≡ o → (w : Option Ending) → (is_some (slice_get o 0) ≡ true → w ≡ Some z) → (is_some (slice_get o 0) ≡ false → w ≡ None) → stage_in n None w ≡ awaited_stage n o
+  over : (o : List (ℕ × ℕ)) (n : ℕ) (z : Ending) → z.awaits ≡ o → (w : Option Ending) → (is_some (slice_get o 0) ≡ true → w ≡ Some z)
+      → (is_some (slice_get o 0) ≡ false → w ≡ None) → stage_in n None w ≡ awaited_stage n o
   over [] n z e w some none = ap (stage_in n None) (none refl)
   over (a ∷ rest) n z e w some none = ap (stage_in n None) (some refl) ∙ ap (awaited_stage n) e
 
@@ -226,8 +186,10 @@ module _ (k : ℕ) (c : Cluster) (s : Server) (at : slice_get c.servers k ≡ So
   stage_then : (key : Key) → same_txn t key.txn ≡ true → stage_of_key after.servers key ≡ awaited_stage key.part out
   stage_then key e = its (λ z. stage_of_key after.servers z ≡ awaited_stage z.part out) key e (stage_own key.part)
 
-  stage_was : (key : Key) → same_txn t key.txn ≡ true → stage_of_key c.servers key ≡ stage_by (slice_get l.at key.part) (slice_get l.leader.votes key.part)
-  stage_was key e = its (λ z. stage_of_key c.servers z ≡ stage_by (slice_get l.at z.part) (slice_get l.leader.votes z.part)) key e (stage_was_own key.part)
+  stage_was : (key : Key) → same_txn t key.txn ≡ true
+      → stage_of_key c.servers key ≡ stage_by (slice_get l.at key.part) (slice_get l.leader.votes key.part)
+  stage_was key e = its (λ z. stage_of_key c.servers z ≡ stage_by (slice_get l.at z.part) (slice_get l.leader.votes z.part)) key e
+      (stage_was_own key.part)
 
   stage_other : (key : Key) → same_txn t key.txn ≡ false → stage_of_key after.servers key ≡ stage_of_key c.servers key
   stage_other key e =
@@ -241,27 +203,35 @@ module _ (k : ℕ) (c : Cluster) (s : Server) (at : slice_get c.servers k ≡ So
   pub telling_after : telling_of after.in_flight ≡ telling_of c.in_flight ++ map (decision_word k t d) out
   telling_after = telling_append c.in_flight _ ∙ ap (λ ws. telling_of c.in_flight ++ ws) (decision_words k t d out by (end_of_decision d))
 
-  told_now : (key : Key) → told_of key (telling_of after.in_flight) ≡ told_of key (telling_of c.in_flight) ++ told_of key (map (decision_word k t d) out)
+  told_now : (key : Key) → told_of key (telling_of after.in_flight) ≡ told_of key (telling_of c.in_flight) ++ told_of key
+      (map (decision_word k t d) out)
   told_now key = ap (told_of key) telling_after ∙ filter-append (is_of key) (telling_of c.in_flight) (map (decision_word k t d) out)
 
-  none_new : (key : Key) → told_of key (map (decision_word k t d) out) ≡ [] → told_of key (telling_of after.in_flight) ≡ told_of key (telling_of c.in_flight)
-  none_new key e = told_now key ∙ ap (λ ws. told_of key (telling_of c.in_flight) ++ ws) e ∙ append-nil (told_of key (telling_of c.in_flight))
+  none_new : (key : Key) → told_of key (map (decision_word k t d) out) ≡ []
+      → told_of key (telling_of after.in_flight) ≡ told_of key (telling_of c.in_flight)
+  none_new key e = told_now key ∙ ap (λ ws. told_of key (telling_of c.in_flight) ++ ws) e
+      ∙ append-nil (told_of key (telling_of c.in_flight))
 
   -- ## One part
 
   abbrev Stands : Key → Stage → List Told → Type 0
   Stands key st words = IsStage key (held.parts key) st (λ j. prepared_in c.servers j key) words
 
-  stands : (key : Key) (st : Stage) (words : List Told) → stage_of_key after.servers key ≡ st → told_of key (telling_of after.in_flight) ≡ words → Stands key st words
-      → IsStage key (held.parts key) (stage_of_key after.servers key) (λ j. prepared_in after.servers j key) (told_of key (telling_of after.in_flight))
+  stands : (key : Key) (st : Stage) (words : List Told) → stage_of_key after.servers key ≡ st
+      → told_of key (telling_of after.in_flight) ≡ words → Stands key st words
+      → IsStage key (held.parts key) (stage_of_key after.servers key) (λ j. prepared_in after.servers j key)
+          (told_of key (telling_of after.in_flight))
   stands key st words e f h =
-      let same : (λ j. prepared_in c.servers j key) ≡ (λ j. prepared_in after.servers j key) = fun_ext (λ j. sym (prepared_set c.servers k s y at refl j key)) in
+      let same : (λ j. prepared_in c.servers j key) ≡ (λ j. prepared_in after.servers j key) =
+          fun_ext (λ j. sym (prepared_set c.servers k s y at refl j key)) in
       subst (λ z. IsStage key (held.parts key) z (λ j. prepared_in after.servers j key) (told_of key (telling_of after.in_flight))) (sym e)
       (subst (λ z. IsStage key (held.parts key) st (λ j. prepared_in after.servers j key) z) (sym f)
       (subst (λ z. IsStage key (held.parts key) st z words) same h))
 
-  counted_so : (key : Key) → same_txn t key.txn ≡ true → WasCounted (stage_of_key c.servers key) (slice_get l.at key.part) (slice_get l.leader.votes key.part)
-  counted_so key e = subst (λ z. WasCounted z (slice_get l.at key.part) (slice_get l.leader.votes key.part)) (sym (stage_was key e)) (was_counted (slice_get l.at key.part) (slice_get l.leader.votes key.part) (none_empty l.leader.votes key.part full))
+  counted_so : (key : Key) → same_txn t key.txn ≡ true
+      → WasCounted (stage_of_key c.servers key) (slice_get l.at key.part) (slice_get l.leader.votes key.part)
+  counted_so key e = subst (λ z. WasCounted z (slice_get l.at key.part) (slice_get l.leader.votes key.part)) (sym (stage_was key e))
+      (was_counted (slice_get l.at key.part) (slice_get l.leader.votes key.part) (none_empty l.leader.votes key.part full))
 
   at_stage : (key : Key) (st : Stage) → stage_of_key c.servers key ≡ st → Stands key st (told_of key (telling_of c.in_flight))
   at_stage key st e = subst (λ z. Stands key z (told_of key (telling_of c.in_flight))) e (held.stages key)
@@ -275,34 +245,47 @@ module _ (k : ℕ) (c : Cluster) (s : Server) (at : slice_get c.servers k ≡ So
   server_is : (key : Key) → same_txn t key.txn ≡ true → s.me ≡ key.txn.server
   server_is key e = sym leads.own ∙ ap (λ (u : TxnNo). u.server) (txn_is t key.txn e)
 
-  word_is : (key : Key) (p : ℕ) → same_txn t key.txn ≡ true → decision_word k t d (key.part, p) ≡ word_to key p (Decide (told_effects d key.part))
+  word_is : (key : Key) (p : ℕ) → same_txn t key.txn ≡ true
+      → decision_word k t d (key.part, p) ≡ word_to key p (Decide (told_effects d key.part))
   word_is key p e =
-      ap₂ (λ (from : ℕ) (u : TxnNo). let m : Told = record { from = from; to = p; key = key_of u key.part; word = Decide (told_effects d key.part) } in m) (sym me ∙ server_is key e) (txn_is t key.txn e)
+      ap₂ (λ (from : ℕ) (u : TxnNo). let m : Told = record { from = from; to = p; key = key_of u key.part;
+          word = Decide (told_effects d key.part) } in m) (sym me ∙ server_is key e) (txn_is t key.txn e)
 
   -- it said Yes elsewhere, and is told
-  tell : (key : Key) → same_txn t key.txn ≡ true → (p : ℕ) → of_number key.part out ≡ (key.part, p) ∷ [] → slice_get l.leader.votes key.part ≡ Some (Some Yes) → slice_get l.at key.part ≡ Some p → (p == s.me) ≡ false
-      → IsStage key (held.parts key) (stage_of_key after.servers key) (λ j. prepared_in after.servers j key) (told_of key (telling_of after.in_flight))
+  tell : (key : Key) → same_txn t key.txn ≡ true → (p : ℕ) → of_number key.part out ≡ (key.part, p) ∷ []
+      → slice_get l.leader.votes key.part ≡ Some (Some Yes) → slice_get l.at key.part ≡ Some p → (p == s.me) ≡ false
+      → IsStage key (held.parts key) (stage_of_key after.servers key) (λ j. prepared_in after.servers j key)
+          (told_of key (telling_of after.in_flight))
   tell key e p q v a f =
       let es : List Effect = told_effects d key.part in
       let counted : stage_of_key c.servers key ≡ Counted p Yes = stage_was key e ∙ ap₂ stage_by a v in
       let away : (p == key.txn.server) ≡ false = ap (λ j. p == j) (sym (server_is key e)) ∙ f in
-      let words : told_of key (telling_of c.in_flight ++ word_to key p (Decide es) ∷ []) ≡ told_of key (telling_of c.in_flight) ++ word_to key p (Decide es) ∷ [] = told_push key (word_to key p (Decide es)) (telling_of c.in_flight) refl in
+      let words : told_of key (telling_of c.in_flight ++ word_to key p (Decide es) ∷ []) ≡ told_of key
+          (telling_of c.in_flight) ++ word_to key p (Decide es) ∷ [] =
+          told_push key (word_to key p (Decide es)) (telling_of c.in_flight) refl in
       let now : told_of key (telling_of after.in_flight) ≡ told_of key (telling_of c.in_flight) ++ word_to key p (Decide es) ∷ [] =
-          told_now key ∙ ap (λ ws. told_of key (telling_of c.in_flight) ++ ws) (words_of k t d key out e ∙ ap (map (decision_word k t d)) q ∙ ap (λ w. w ∷ []) (word_is key p e)) in
-      stands key (Awaited p) (told_of key (telling_of c.in_flight) ++ word_to key p (Decide es) ∷ []) (stage_then key e ∙ awaited_first key.part out ∙ ap first_awaited q) now
-      (subst (λ z. Stands key z (told_of key (telling_of c.in_flight) ++ word_to key p (Decide es) ∷ [])) (ap (λ b. cond b (Awaited p) (stage_of_key c.servers key)) (key_itself key))
-      (subst (λ z. Stands key (with_key key (Awaited p) (stage_of_key c.servers) key) z) words (tells (desks_of held.parts c) key p es held.stages counted away key)))
+          told_now key ∙ ap (λ ws. told_of key (telling_of c.in_flight) ++ ws)
+              (words_of k t d key out e ∙ ap (map (decision_word k t d)) q ∙ ap (λ w. w ∷ []) (word_is key p e)) in
+      stands key (Awaited p) (told_of key (telling_of c.in_flight) ++ word_to key p (Decide es) ∷ [])
+          (stage_then key e ∙ awaited_first key.part out ∙ ap first_awaited q) now
+      (subst (λ z. Stands key z (told_of key (telling_of c.in_flight) ++ word_to key p (Decide es) ∷ []))
+          (ap (λ b. cond b (Awaited p) (stage_of_key c.servers key)) (key_itself key))
+      (subst (λ z. Stands key (with_key key (Awaited p) (stage_of_key c.servers) key) z) words
+          (tells (desks_of held.parts c) key p es held.stages counted away key)))
 
   -- it is over at once
-  drop : (key : Key) → same_txn t key.txn ≡ true → of_number key.part out ≡ [] → ((p : ℕ) → slice_get l.leader.votes key.part ≡ Some (Some Yes) → slice_get l.at key.part ≡ Some p → (p == s.me) ≡ true)
-      → IsStage key (held.parts key) (stage_of_key after.servers key) (λ j. prepared_in after.servers j key) (told_of key (telling_of after.in_flight))
+  drop : (key : Key) → same_txn t key.txn ≡ true → of_number key.part out ≡ []
+      → ((p : ℕ) → slice_get l.leader.votes key.part ≡ Some (Some Yes) → slice_get l.at key.part ≡ Some p → (p == s.me) ≡ true)
+      → IsStage key (held.parts key) (stage_of_key after.servers key) (λ j. prepared_in after.servers j key)
+          (told_of key (telling_of after.in_flight))
   drop key e q f =
       stands key Unknown (told_of key (telling_of c.in_flight)) (stage_then key e ∙ awaited_first key.part out ∙ ap first_awaited q)
       (none_new key (words_of k t d key out e ∙ ap (map (decision_word k t d)) q))
       (elim (counted_so key e) as (λ _. Stands key Unknown (told_of key (telling_of c.in_flight))) [
         | no_part u ↦ at_stage key Unknown u
         | counted p v u g a ↦
-            subst (λ z. Stands key z (told_of key (telling_of c.in_flight))) (ap (λ b. cond b Unknown (stage_of_key c.servers key)) (key_itself key))
+            subst (λ z. Stands key z (told_of key (telling_of c.in_flight)))
+                (ap (λ b. cond b Unknown (stage_of_key c.servers key)) (key_itself key))
             (drops (desks_of held.parts c) key p v held.stages u
             (λ yes. ap (λ j. p == j) (sym (server_is key e)) ∙ f p (g ∙ ap Some (yes_said (Some v) yes)) a) key)
       ])
@@ -311,24 +294,31 @@ module _ (k : ℕ) (c : Cluster) (s : Server) (at : slice_get c.servers k ≡ So
   stages_concluded key = at_txn (same_txn t key.txn) refl
     where
       at_number : same_txn t key.txn ≡ true → IsTold s.me key.part out (slice_get l.leader.votes key.part) (slice_get l.at key.part)
-          → IsStage key (held.parts key) (stage_of_key after.servers key) (λ j. prepared_in after.servers j key) (told_of key (telling_of after.in_flight))
+          → IsStage key (held.parts key) (stage_of_key after.servers key) (λ j. prepared_in after.servers j key)
+              (told_of key (telling_of after.in_flight))
       at_number e (told p q v a f) = tell key e p q v a f
       at_number e (untold q f) = drop key e q f
 
-      at_txn : (b : Bool) → same_txn t key.txn ≡ b → IsStage key (held.parts key) (stage_of_key after.servers key) (λ j. prepared_in after.servers j key) (told_of key (telling_of after.in_flight))
+      at_txn : (b : Bool) → same_txn t key.txn ≡ b
+          → IsStage key (held.parts key) (stage_of_key after.servers key) (λ j. prepared_in after.servers j key)
+          (told_of key (telling_of after.in_flight))
       at_txn true e = at_number e (is_told s.me key.part l)
-      at_txn false e = stands key (stage_of_key c.servers key) (told_of key (telling_of c.in_flight)) (stage_other key e) (none_new key (none_of_words k t d key out e)) (held.stages key)
+      at_txn false e = stands key (stage_of_key c.servers key) (told_of key (telling_of c.in_flight)) (stage_other key e)
+          (none_new key (none_of_words k t d key out e)) (held.stages key)
 
   -- ## Its files
 
   pub files_concluded : FilesApart held.parts (stage_of_key after.servers)
   files_concluded = files_still held.parts (stage_of_key c.servers) (stage_of_key after.servers) older held.files
     where
-      at_number : (key : Key) → same_txn t key.txn ≡ true → stage_of_key after.servers key ≢ Unknown → IsTold s.me key.part out (slice_get l.leader.votes key.part) (slice_get l.at key.part) → stage_of_key c.servers key ≢ Unknown
-      at_number key e n (told p q v a f) u = let wrong : Counted p Yes ≡ Unknown = sym (stage_was key e ∙ ap₂ stage_by a v) ∙ u in absurd (cc wrong)
+      at_number : (key : Key) → same_txn t key.txn ≡ true → stage_of_key after.servers key ≢ Unknown
+          → IsTold s.me key.part out (slice_get l.leader.votes key.part) (slice_get l.at key.part) → stage_of_key c.servers key ≢ Unknown
+      at_number key e n (told p q v a f) u = let wrong : Counted p Yes ≡ Unknown =
+          sym (stage_was key e ∙ ap₂ stage_by a v) ∙ u in absurd (cc wrong)
       at_number key e n (untold q f) u = n (stage_then key e ∙ awaited_first key.part out ∙ ap first_awaited q)
 
-      at_txn : (key : Key) (b : Bool) → same_txn t key.txn ≡ b → stage_of_key after.servers key ≢ Unknown → stage_of_key c.servers key ≢ Unknown
+      at_txn : (key : Key) (b : Bool) → same_txn t key.txn ≡ b → stage_of_key after.servers key ≢ Unknown
+          → stage_of_key c.servers key ≢ Unknown
       at_txn key true e n = at_number key e n (is_told s.me key.part l)
       at_txn key false e n = λ u. n (stage_other key e ∙ u)
 
@@ -344,8 +334,13 @@ module _ (k : ℕ) (c : Cluster) (s : Server) (at : slice_get c.servers k ≡ So
       key = key_of t r.number
 
       none : find (is_part t r.number) s.prepared ≡ None
-      none = no_option wanted_of (find (is_part t r.number) s.prepared)
-          (sym (ap (λ o. option_map wanted_of (find (is_part t r.number) (ready_at o))) (was_at c.servers k s y at t.server mine)) ∙ not_at_home key (held.parts key) (stage_of_key c.servers key) (λ j. prepared_in c.servers j key) (told_of key (telling_of c.in_flight)) (held.stages key))
+      none = elim (find (is_part t r.number) s.prepared) as (λ o. option_map wanted_of o ≡ None → o ≡ None) [
+        | None ↦ λ e. refl
+        | Some z ↦ λ e. absurd (cc e)
+      ]
+          (sym (ap (λ o. option_map wanted_of (find (is_part t r.number) (ready_at o))) (was_at c.servers k s y at t.server mine))
+              ∙ not_at_home key (held.parts key) (stage_of_key c.servers key) (λ j. prepared_in c.servers j key)
+              (told_of key (telling_of c.in_flight)) (held.stages key))
 
       off_if : (b : Bool) → same_txn r.txn t ≡ b → b ≡ false
       off_if true e = sym (joined _ _ e (itself r.number)) ∙ none_pass (is_part t r.number) s.prepared none r i
@@ -355,23 +350,18 @@ module _ (k : ℕ) (c : Cluster) (s : Server) (at : slice_get c.servers k ≡ So
   said_then =
       filter-append (λ (z : Agreed). not (same_txn z.key.txn t)) (map agreed_of s.prepared) (flat_map (said_by s.me) s.leading)
       ∙ ap₂ (λ a b. a ++ b)
-      (all_stay (λ (z : Agreed). not (same_txn z.key.txn t)) (map agreed_of s.prepared) (λ z i. let q = In-map agreed_of z s.prepared i in ap (λ (a : Agreed). not (same_txn a.key.txn t)) q.1.1 ∙ ap not (none_ready q.0 q.1.0)))
+      (all_stay (λ (z : Agreed). not (same_txn z.key.txn t)) (map agreed_of s.prepared)
+          (λ z i. let q = In-map agreed_of z s.prepared i in ap (λ (a : Agreed). not (same_txn a.key.txn t)) q.1.1
+          ∙ ap not (none_ready q.0 q.1.0)))
       (sym (said_left s.me t s.leading))
 
   -- each part of the transaction here is its session's
   one_session : (z : Agreed) → In z (said_at s) → z.key.txn ≡ t → z.wanted.session ≡ by
-  one_session z i e = elim (In-append z (map agreed_of s.prepared) (flat_map (said_by s.me) s.leading) i) as (λ _. z.wanted.session ≡ by) [
-    | inl j ↦
-        let q = In-map agreed_of z s.prepared j in
-        let wrong : true ≡ false = sym (txn_itself t) ∙ ap (λ u. same_txn u t) (sym e ∙ ap (λ (a : Agreed). a.key.txn) q.1.1) ∙ none_ready q.0 q.1.0 in
-        absurd (cc wrong)
-    | inr j ↦
-        let q = In_some (said_by s.me) z s.leading j in
-        let its = said_its s.me q.0 z q.1.1 in
-        let same : Some q.0 ≡ Some l = sym (held.leading s here q.0 q.1.0).one ∙ ap (λ u. leading_of u s.leading) (sym its.txn ∙ e) ∙ led in
-        let is : q.0 ≡ l = cc in
-        its.session ∙ ap (λ (m : Leading). m.leader.session) is
-  ]
+  one_session z i e =
+      let its : session_of c.servers t ≡ Some by =
+          ap (λ o. session_by o (ended_in c.servers t)) (ap (λ o. leading_of t (leading_at o)) (was_at c.servers k s y at t.server mine) ∙ led) in
+      let same : Some z.wanted.session ≡ Some by = sym (said_session c held s k at me z i) ∙ ap (session_of c.servers) e ∙ its in
+      cc
 
   abbrev its_commit : Kept
   its_commit = record { txn = t; session = by }
@@ -382,38 +372,47 @@ module _ (k : ℕ) (c : Cluster) (s : Server) (at : slice_get c.servers k ≡ So
   kept_still : (z : Kept) → In z (kept_at s) → In z (kept_at y)
   kept_still z i =
       let q = in_kept s.ending z i in
-      let same : z ≡ (let a : Kept = record { txn = (q.0).txn; session = (q.0).session } in a) = ap₂ (λ (u : TxnNo) (v : Session). let a : Kept = record { txn = u; session = v } in a) q.1.1.1.0 q.1.1.1.1 in
-      subst (λ a. In a (kept_at y)) (sym same) (kept_there q.0 y.ending (ending_kept ended s.ending q.0 q.1.0 (no_ending q.0 q.1.0)) q.1.1.0)
+      let same : z ≡ (let a : Kept = record { txn = (q.0).txn; session = (q.0).session } in a) =
+          ap₂ (λ (u : TxnNo) (v : Session). let a : Kept = record { txn = u; session = v } in a) q.1.1.1.0 q.1.1.1.1 in
+      subst (λ a. In a (kept_at y)) (sym same)
+          (kept_there q.0 y.ending (ending_kept ended s.ending q.0 q.1.0 (no_ending q.0 q.1.0)) q.1.1.0)
 
   committed : LocksHold s.rows (said_at y) (its_commit ∷ kept_at s)
-  committed = subst (λ z. LocksHold s.rows z (its_commit ∷ kept_at s)) said_then (commit_keeps s.rows (said_at s) (kept_at s) its_commit (held.locks s here) one_session)
+  committed = subst (λ z. LocksHold s.rows z (its_commit ∷ kept_at s)) said_then
+      (commit_keeps s.rows (said_at s) (kept_at s) its_commit (held.locks s here) one_session)
 
   -- its rows stay locked behind a rename
   kept_locks : keeps_for d out ≡ true → LocksHold s.rows (said_at y) (kept_at y)
   kept_locks e =
       let q = both (keeps_rows d) (is_some (slice_get out 0)) e in
-      locks_alike s.rows (said_at y) (said_at y) (its_commit ∷ kept_at s) (kept_at y) (λ z i. i) (λ z i. i) (λ z i. elim i as (λ _. In z (kept_at y)) [
-        | inl same ↦ subst (λ a. In a (kept_at y)) (sym same) (kept_there ended y.ending (ending_there ended s.ending q.1) (keeps_end d q.0))
+      locks_alike s.rows (said_at y) (said_at y) (its_commit ∷ kept_at s) (kept_at y) (λ z i. i) (λ z i. i)
+          (λ z i. elim i as (λ _. In z (kept_at y)) [
+        | inl same ↦ subst (λ a. In a (kept_at y)) (sym same)
+            (kept_there ended y.ending (ending_there ended s.ending q.1) (keeps_end d q.0))
         | inr j ↦ kept_still z j
       ]) committed
 
   none_said : (z : Agreed) → In z (said_at y) → same_txn z.key.txn t ≡ false
-  none_said z i = denied (same_txn z.key.txn t) (passing (λ (a : Agreed). not (same_txn a.key.txn t)) (said_at s) z (subst (In z) (sym said_then) i))
+  none_said z i = not-true (same_txn z.key.txn t)
+      (passing (λ (a : Agreed). not (same_txn a.key.txn t)) (said_at s) z (subst (In z) (sym said_then) i))
 
   -- else they are unlocked
   freed_locks : LocksHold (rows_unlocked t s.rows) (said_at y) (kept_at y)
   freed_locks =
-      locks_alike (rows_unlocked t s.rows) (said_at y) (said_at y) (without_kept t (its_commit ∷ kept_at s)) (kept_at y) (λ z i. i) (λ z i. i)
+      locks_alike (rows_unlocked t s.rows) (said_at y) (said_at y) (without_kept t (its_commit ∷ kept_at s)) (kept_at y) (λ z i. i)
+          (λ z i. i)
       (λ z i. elim (In-filter (λ (a : Kept). not (same_txn a.txn t)) z (its_commit ∷ kept_at s) i) as (λ _. In z (kept_at y)) [
         | inl same ↦
-            let wrong : true ≡ false = sym (passing (λ (a : Kept). not (same_txn a.txn t)) (its_commit ∷ kept_at s) z i) ∙ ap (λ (a : Kept). not (same_txn a.txn t)) same ∙ ap not (txn_itself t) in
+            let wrong : true ≡ false = sym (passing (λ (a : Kept). not (same_txn a.txn t)) (its_commit ∷ kept_at s) z i)
+                ∙ ap (λ (a : Kept). not (same_txn a.txn t)) same ∙ ap not (txn_itself t) in
             absurd (cc wrong)
         | inr j ↦ kept_still z j
       ])
       (last_keeps s.rows (said_at y) (its_commit ∷ kept_at s) t committed none_said)
 
   pub locks_concluded : LocksHold y.rows (said_at y) (kept_at y)
-  locks_concluded = elim (keeps_for d out) as (λ b. keeps_for d out ≡ b → LocksHold (cond b s.rows (rows_unlocked t s.rows)) (said_at y) (kept_at y)) [
+  locks_concluded = elim (keeps_for d out) as
+      (λ b. keeps_for d out ≡ b → LocksHold (cond b s.rows (rows_unlocked t s.rows)) (said_at y) (kept_at y)) [
     | true ↦ kept_locks
     | false ↦ λ e. freed_locks
   ] refl
@@ -433,18 +432,21 @@ module _ (k : ℕ) (c : Cluster) (s : Server) (at : slice_get c.servers k ≡ So
   -- each part that is awaited then is another server's, and the session's
   awaited_out : (n : ℕ × ℕ) → In n out → ((n.1 == s.me) ≡ false) × ((held.parts (key_of t n.0)).session ≡ by)
   awaited_out n i = (
-    denied (n.1 == s.me) (passing (λ (a : ℕ × ℕ). not (a.1 == s.me)) (yes_parts l) n i),
+    not-true (n.1 == s.me) (passing (λ (a : ℕ × ℕ). not (a.1 == s.me)) (yes_parts l) n i),
     of_part (is_told s.me n.0 l),
   )
     where
       of_part : IsTold s.me n.0 out (slice_get l.leader.votes n.0) (slice_get l.at n.0) → (held.parts (key_of t n.0)).session ≡ by
       of_part (told p q v a f) =
-          let part = as_long l.leader.votes l.leader.parts n.0 (Some Yes) leads.votes v in
+          let part = in_range l.leader.votes l.leader.parts n.0 (Some Yes) leads.votes v in
           ap (λ (w : Wanted). w.session) (leads.wanted n.0 part.0 part.1)
       of_part (untold q f) = absurd (subst (In n) q (kept_in (λ (a : ℕ × ℕ). a.0 == n.0) n out i (itself n.0)))
 
-  module _ (is : is_led l.leader.op ≡ true) (few : (o : Key) (to : ℕ) (effects : List Effect) → In (word_to o to (Decide effects)) (telling_of after.in_flight) → length effects ≤ 1)
-      (told_new : (n : ℕ × ℕ) → In n out → (e : Effect) → In e (told_effects d n.0) → IsToldOf after.servers (key_of t n.0) (held.parts (key_of t n.0)) e) where
+  module _ (is : is_led l.leader.op ≡ true)
+      (few : (o : Key) (to : ℕ) (effects : List Effect) → In (word_to o to (Decide effects)) (telling_of after.in_flight)
+      → length effects ≤ 1)
+      (told_new : (n : ℕ × ℕ) → In n out → (e : Effect) → In e (told_effects d n.0)
+          → IsToldOf after.servers (key_of t n.0) (held.parts (key_of t n.0)) e) where
     ending_here : (m : Ending) → In m y.ending → IsEnded c.lines y held.parts m
     ending_here m i = elim (in_with_ending ended s.ending m i) as (λ _. IsEnded c.lines y held.parts m) [
       | inl q ↦ subst (IsEnded c.lines y held.parts) (sym q.0) (record {
@@ -460,41 +462,56 @@ module _ (k : ℕ) (c : Cluster) (s : Server) (at : slice_get c.servers k ≡ So
       })
       | inr q ↦
           let z = held.ending s here m q.0 in
-          ended_then c.lines s y held.parts refl (omega arith) m (ending_other ended m.txn s.ending q.1 ∙ z.one) (leading_left m.txn t s.leading q.1 ∙ z.only) z
+          ended_then c.lines s y held.parts refl (omega arith) m (ending_other ended m.txn s.ending q.1 ∙ z.one)
+              (leading_left m.txn t s.leading q.1 ∙ z.only) z
     ]
 
     -- a row that another transaction locks stays
     rows_stay : (u : TxnNo) → same_txn u t ≡ false → (r : Row) → In r s.rows → r.lock ≡ Some u → In r y.rows
     rows_stay u off r i e = elim (keeps_for d out) as (λ b. In r (cond b s.rows (rows_unlocked t s.rows))) [
       | true ↦ i
-      | false ↦ subst (λ z. In z (rows_unlocked t s.rows)) (ap (λ b. cond b (let q : Row = record r { lock = None } in q) r) (ap (is_lock_of t) e ∙ off)) (In-mapped (unlocked_row t) r s.rows i)
+      | false ↦ subst (λ z. In z (rows_unlocked t s.rows))
+          (ap (λ b. cond b (let q : Row = record r { lock = None } in q) r) (ap (is_lock_of t) e ∙ off))
+          (In-mapped (unlocked_row t) r s.rows i)
     ]
 
     -- what was told before is of other transactions
-    old_apart : (key : Key) (to : ℕ) (effects : List Effect) → In (word_to key to (Decide effects)) (telling_of c.in_flight) → same_txn t key.txn ≡ false
+    old_apart : (key : Key) (to : ℕ) (effects : List Effect) → In (word_to key to (Decide effects)) (telling_of c.in_flight)
+        → same_txn t key.txn ≡ false
     old_apart key to effects i = off_if (same_txn t key.txn) refl
       where
         off_if : (b : Bool) → same_txn t key.txn ≡ b → b ≡ false
-        off_if true e = absurd (subst (In (word_to key to (Decide effects))) (silent key e) (kept_in (is_of key) (word_to key to (Decide effects)) (telling_of c.in_flight) i (key_itself key)))
+        off_if true e = absurd (subst (In (word_to key to (Decide effects))) (silent key e)
+            (kept_in (is_of key) (word_to key to (Decide effects)) (telling_of c.in_flight) i (key_itself key)))
         off_if false e = refl
 
-    told_all : (key : Key) (to : ℕ) (effects : List Effect) → In (word_to key to (Decide effects)) (telling_of after.in_flight) → (e : Effect) → In e effects → IsToldOf after.servers key (held.parts key) e
-    told_all key to effects i e j = elim (In-append (word_to key to (Decide effects)) (telling_of c.in_flight) (map (decision_word k t d) out) (subst (In (word_to key to (Decide effects))) telling_after i)) as (λ _. IsToldOf after.servers key (held.parts key) e) [
-      | inl old ↦ told_then c.servers k s y at key (held.parts key) e (λ q. rows_stay key.txn (txn_apart t key.txn (old_apart key to effects old))) (held.told key to effects old e j)
+    told_all : (key : Key) (to : ℕ) (effects : List Effect) → In (word_to key to (Decide effects)) (telling_of after.in_flight)
+        → (e : Effect) → In e effects → IsToldOf after.servers key (held.parts key) e
+    told_all key to effects i e j =
+        elim (In-append (word_to key to (Decide effects)) (telling_of c.in_flight) (map (decision_word k t d) out)
+        (subst (In (word_to key to (Decide effects))) telling_after i)) as (λ _. IsToldOf after.servers key (held.parts key) e) [
+      | inl old ↦ told_then c.servers k s y at key (held.parts key) e
+          (λ q. rows_stay key.txn (txn_apart t key.txn (old_apart key to effects old))) (held.told key to effects old e j)
       | inr new ↦
           let q = In-map (decision_word k t d) (word_to key to (Decide effects)) out new in
           let word : Decide effects ≡ Decide (told_effects d (q.0).0) = ap (λ (m : Told). m.word) q.1.1 in
           let is : effects ≡ told_effects d (q.0).0 = cc in
-          subst (λ z. IsToldOf after.servers z (held.parts z) e) (sym (ap (λ (m : Told). m.key) q.1.1)) (told_new q.0 q.1.0 e (subst (In e) is j))
+          subst (λ z. IsToldOf after.servers z (held.parts z) e) (sym (ap (λ (m : Told). m.key) q.1.1))
+              (told_new q.0 q.1.0 e (subst (In e) is j))
     ]
 
     pub led_concluded : LedHolds after
     led_concluded = record {
       parts = held.parts;
       stages = stages_concluded;
-      leading = λ z i m j. leading_waits c.lines after.lines z held.parts m (waits_still m.leader.session z.me) (each_after (λ a. In m a.leading → IsLeading c.lines a held.parts m) c.servers k y (λ a p q. held.leading a p m q) (leading_here m) z i j);
-      ending = λ z i m j. ended_waits c.lines after.lines z held.parts m (waits_still m.session z.me) (each_after (λ a. In m a.ending → IsEnded c.lines a held.parts m) c.servers k y (λ a p q. held.ending a p m q) (ending_here m) z i j);
-      ready = λ z i r j. each_after (λ a. In r a.prepared → find (is_part r.txn r.number) a.prepared ≡ Some r) c.servers k y (λ a p q. held.ready a p r q) (held.ready s here r) z i j;
+      leading = λ z i m j. leading_waits c.lines after.lines z held.parts m (waits_still m.leader.session z.me)
+          (each_after (λ a. In m a.leading → IsLeading c.lines a held.parts m) c.servers k y (λ a p q. held.leading a p m q)
+          (leading_here m) z i j);
+      ending = λ z i m j. ended_waits c.lines after.lines z held.parts m (waits_still m.session z.me)
+          (each_after (λ a. In m a.ending → IsEnded c.lines a held.parts m) c.servers k y (λ a p q. held.ending a p m q)
+          (ending_here m) z i j);
+      ready = λ z i r j. each_after (λ a. In r a.prepared → find (is_part r.txn r.number) a.prepared ≡ Some r) c.servers k y
+          (λ a p q. held.ready a p r q) (held.ready s here r) z i j;
       locks = λ z i. each_after (λ a. LocksHold a.rows (said_at a) (kept_at a)) c.servers k y held.locks locks_concluded z i;
       files = files_concluded;
       few = few;

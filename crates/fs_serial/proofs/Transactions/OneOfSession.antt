@@ -138,8 +138,9 @@ module _ (c : Cluster) (h : LedHolds c) (x : Session) (one : length (ends_in c x
           taken_all x w.0 c.servers ∙ ap (λ d. length (taken_leads x d c.servers)) (sym w.1) in
       omega (arith, same)
 
-  few : length (txns_of x c.servers) ≤ 1
-  few =
+  -- counted with what it asks for itself
+  pub with_asked : length (txns_of x c.servers) + length (map (λ (m : ℕ × ClientMsg). m.1) (c.lines x).up) ≤ 1
+  with_asked =
       let asked : List ClientMsg = map (λ (m : ℕ × ClientMsg). m.1) (c.lines x).up in
       let told : List Answer = map (λ (m : ℕ × Answer). m.1) (c.lines x).down in
       let all : length (txns_of x c.servers) ≡ length (flat_map (leads_at x) c.servers) + length (owed_to x c.servers) =
@@ -152,6 +153,9 @@ module _ (c : Cluster) (h : LedHolds c) (x : Session) (one : length (ends_in c x
           ap length (due_both (owed_to x c.servers) told ∙ ap (λ ys. ys ++ due told) (all_owed_due x c.servers))
               ∙ length-append (owed_to x c.servers) (due told) in
       omega (arith, all, led, up, down, one)
+
+  few : length (txns_of x c.servers) ≤ 1
+  few = omega (arith, with_asked)
 
   pub one_txn : (a b : TxnNo) → In a (txns_of x c.servers) → In b (txns_of x c.servers) → a ≡ b
   one_txn a b i j = only_one (txns_of x c.servers) a b few i j

@@ -46,11 +46,13 @@ use Rattle.fs_serial.proofs.Transactions.Desks.{each_after, ended_still, files_s
 
 -- ## Lines of sessions
 
-pub sent_client : (k : ℕ) (ms : List (Peer × Msg)) (lines : Session → Lines) (y : Session) → (with_sent k ms lines y).client ≡ (lines y).client
+pub sent_client : (k : ℕ) (ms : List (Peer × Msg)) (lines : Session → Lines) (y : Session)
+    → (with_sent k ms lines y).client ≡ (lines y).client
 sent_client k [] lines y = refl
 sent_client k ((OfSession to, msg.Answer a) ∷ rest) lines y = sent_client k rest (with_answer k to a lines) y ∙ by (to.0 == y.0)
   where
-    by : (b : Bool) → (let l : Lines = cond b (record (lines y) { down = (lines y).down ++ (k, a) ∷ [] }) (lines y) in l).client ≡ (lines y).client
+    by : (b : Bool) → (let l : Lines = cond b (record (lines y) { down = (lines y).down ++ (k, a) ∷ [] }) (lines y) in l).client ≡
+        (lines y).client
     by true = refl
     by false = refl
 sent_client k (m ∷ rest) lines y = sent_client k rest lines y
@@ -64,16 +66,21 @@ taken_client k (event.FromClient by m) lines y =
     ] refl
 taken_client k e lines y = refl
 
-pub waits_alike : (lines later : Session → Lines) (by : Session) (n : ℕ) (l : Led) → (later by).client ≡ (lines by).client → IsLedBy lines by n l → IsLedBy later by n l
-waits_alike lines later by n l e h = record { led = ap (λ (x : Client). x.led) e ∙ h.led; asked = ap (λ (x : Client). x.exchange) e ∙ h.asked }
+pub waits_alike : (lines later : Session → Lines) (by : Session) (n : ℕ) (l : Led) → (later by).client ≡ (lines by).client
+    → IsLedBy lines by n l → IsLedBy later by n l
+waits_alike lines later by n l e h =
+    record { led = ap (λ (x : Client). x.led) e ∙ h.led; asked = ap (λ (x : Client). x.exchange) e ∙ h.asked }
 
 -- a server's step changes no client
 pub step_waits : (k : ℕ) (e : ServerEvent) (x : Stepped) (c : Cluster) (by : Session) → LeavesLedClient by c (after_step k e x c).lines
-step_waits k e x c by n l h leads = waits_alike c.lines (after_step k e x c).lines by n l (sent_client k x.out.send (without_question k e c.lines) by ∙ taken_client k e c.lines by) h
+step_waits k e x c by n l h leads =
+    waits_alike c.lines (after_step k e x c).lines by n l
+    (sent_client k x.out.send (without_question k e c.lines) by ∙ taken_client k e c.lines by) h
 
 -- ## A transaction whose session waits still
 
-pub leading_waits : (lines later : Session → Lines) (s : Server) (parts : Key → Wanted) (l : Leading) → ((d : Led) → IsLedBy lines l.leader.session s.me d → IsLedBy later l.leader.session s.me d)
+pub leading_waits : (lines later : Session → Lines) (s : Server) (parts : Key → Wanted) (l : Leading)
+    → ((d : Led) → IsLedBy lines l.leader.session s.me d → IsLedBy later l.leader.session s.me d)
     → IsLeading lines s parts l → IsLeading later s parts l
 leading_waits lines later s parts l w q = record {
   own = q.own;
@@ -90,7 +97,8 @@ leading_waits lines later s parts l w q = record {
   plain = q.plain;
 }
 
-pub ended_waits : (lines later : Session → Lines) (s : Server) (parts : Key → Wanted) (x : Ending) → ((d : Led) → IsLedBy lines x.session s.me d → IsLedBy later x.session s.me d)
+pub ended_waits : (lines later : Session → Lines) (s : Server) (parts : Key → Wanted) (x : Ending)
+    → ((d : Led) → IsLedBy lines x.session s.me d → IsLedBy later x.session s.me d)
     → IsEnded lines s parts x → IsEnded later s parts x
 ended_waits lines later s parts x w q = record {
   own = q.own;
@@ -109,7 +117,8 @@ ended_waits lines later s parts x w q = record {
 abbrev pub LocksStay : TxnNo → List Row → List Row → Type 0
 LocksStay txn rows new = (r : Row) → In r rows → r.lock ≡ Some txn → IsLocked new txn r.session r.no r.field r.kind
 
-lock_stays : (rows new : List Row) (txn : TxnNo) (by : Session) (on : Field) (wanted : LeaseKind) → LocksStay txn rows new → HasLockFor rows txn by on wanted → HasLockFor new txn by on wanted
+lock_stays : (rows new : List Row) (txn : TxnNo) (by : Session) (on : Field) (wanted : LeaseKind) → LocksStay txn rows new
+    → HasLockFor rows txn by on wanted → HasLockFor new txn by on wanted
 lock_stays rows new txn by on wanted stays h =
     let q = stays h.row h.stands h.lock in
     record {
@@ -121,7 +130,8 @@ lock_stays rows new txn by on wanted stays h =
       lock = q.lock;
     }
 
-placed_stays : (rows new : List Row) (txn : TxnNo) (by : Session) (e : Effect) → LocksStay txn rows new → IsPlaced rows txn by e → IsPlaced new txn by e
+placed_stays : (rows new : List Row) (txn : TxnNo) (by : Session) (e : Effect) → LocksStay txn rows new → IsPlaced rows txn by e
+    → IsPlaced new txn by e
 placed_stays rows new txn by (effect.SetParent file dir name) stays h = lock_stays rows new txn by (Child dir name) Exclusive stays h
 placed_stays rows new txn by (effect.SetChild dir name to) stays h = tt
 placed_stays rows new txn by (effect.NewNode f x y z) stays h = tt
@@ -132,7 +142,8 @@ placed_stays rows new txn by (effect.SetInfo f x y) stays h = tt
 
 -- ## A server's step
 
-module _ (k : ℕ) (e : ServerEvent) (s : Server) (x : Stepped) (c : Cluster) (at : slice_get c.servers k ≡ Some s) (held : LedHolds c) (leaves : LeavesLed k e s x c) where
+module _ (k : ℕ) (e : ServerEvent) (s : Server) (x : Stepped) (c : Cluster) (at : slice_get c.servers k ≡ Some s) (held : LedHolds c)
+    (leaves : LeavesLed k e s x c) where
   abbrev after : Cluster
   after = after_step k e x c
 
@@ -161,14 +172,17 @@ module _ (k : ℕ) (e : ServerEvent) (s : Server) (x : Stepped) (c : Cluster) (a
   }) held.stages
 
   leading_here : (l : Leading) → In l t.leading → IsLeading c.lines t held.parts l
-  leading_here l i = leading_still c.lines s t held.parts leaves.me leaves.txns leaves.leading leaves.ending l (held.leading s here l (subst (In l) leaves.leading i))
+  leading_here l i = leading_still c.lines s t held.parts leaves.me leaves.txns leaves.leading leaves.ending l
+      (held.leading s here l (subst (In l) leaves.leading i))
 
   ending_here : (z : Ending) → In z t.ending → IsEnded c.lines t held.parts z
-  ending_here z i = ended_still c.lines s t held.parts leaves.me leaves.txns leaves.leading leaves.ending z (held.ending s here z (subst (In z) leaves.ending i))
+  ending_here z i = ended_still c.lines s t held.parts leaves.me leaves.txns leaves.leading leaves.ending z
+      (held.ending s here z (subst (In z) leaves.ending i))
 
   locks_here : LocksHold t.rows (said_at t) (kept_at t)
   locks_here =
-      let held_then : LocksHold t.rows (said_at s) (kept_at s) = others_keep s.rows t.rows (said_at s) (kept_at s) (held.locks s here) leaves.locks in
+      let held_then : LocksHold t.rows (said_at s) (kept_at s) =
+          others_keep s.rows t.rows (said_at s) (kept_at s) (held.locks s here) leaves.locks in
       subst (λ xs. LocksHold t.rows (said_at t) (kept_by xs)) (sym leaves.ending)
       (subst (λ me. LocksHold t.rows (map agreed_of t.prepared ++ flat_map (said_by me) t.leading) (kept_at s)) (sym leaves.me)
       (subst (λ xs. LocksHold t.rows (map agreed_of t.prepared ++ flat_map (said_by s.me) xs) (kept_at s)) (sym leaves.leading)
@@ -179,9 +193,11 @@ module _ (k : ℕ) (e : ServerEvent) (s : Server) (x : Stepped) (c : Cluster) (a
     decided = h.decided;
     file = h.file;
     covered = h.covered;
-    placed = elim (key.txn.server == k) as (λ b. (key.txn.server == k) ≡ b → IsPlaced (rows_at (slice_get after.servers key.txn.server)) key.txn w.session d) [
+    placed = elim (key.txn.server == k) as
+        (λ b. (key.txn.server == k) ≡ b → IsPlaced (rows_at (slice_get after.servers key.txn.server)) key.txn w.session d) [
       | true ↦ λ q. subst (λ o. IsPlaced (rows_at o) key.txn w.session d) (sym (is_at c.servers k s t at key.txn.server q))
-          (placed_stays s.rows t.rows key.txn w.session d (λ r i l. leaves.locks.stays r i key.txn l) (subst (λ o. IsPlaced (rows_at o) key.txn w.session d) (was_at c.servers k s t at key.txn.server q) h.placed))
+          (placed_stays s.rows t.rows key.txn w.session d (λ r i l. leaves.locks.stays r i key.txn l)
+              (subst (λ o. IsPlaced (rows_at o) key.txn w.session d) (was_at c.servers k s t at key.txn.server q) h.placed))
       | false ↦ λ q. subst (λ o. IsPlaced (rows_at o) key.txn w.session d) (sym (is_still c.servers k s t at key.txn.server q)) h.placed
     ] refl;
   }
@@ -193,11 +209,16 @@ module _ (k : ℕ) (e : ServerEvent) (s : Server) (x : Stepped) (c : Cluster) (a
   step_keeps_led = record {
     parts = held.parts;
     stages = stages_still;
-    leading = λ z i l j. leading_waits c.lines after.lines z held.parts l (λ d h. waits_alike c.lines after.lines l.leader.session z.me d (client_still l.leader.session) h)
-        (each_after (λ a. In l a.leading → IsLeading c.lines a held.parts l) c.servers k t (λ a p q. held.leading a p l q) (leading_here l) z i j);
-    ending = λ z i y j. ended_waits c.lines after.lines z held.parts y (λ d h. waits_alike c.lines after.lines y.session z.me d (client_still y.session) h)
-        (each_after (λ a. In y a.ending → IsEnded c.lines a held.parts y) c.servers k t (λ a p q. held.ending a p y q) (ending_here y) z i j);
-    ready = λ z i r j. each_after (λ a. In r a.prepared → find (is_part r.txn r.number) a.prepared ≡ Some r) c.servers k t (λ a p q. held.ready a p r q)
+    leading = λ z i l j. leading_waits c.lines after.lines z held.parts l
+        (λ d h. waits_alike c.lines after.lines l.leader.session z.me d (client_still l.leader.session) h)
+        (each_after (λ a. In l a.leading → IsLeading c.lines a held.parts l) c.servers k t (λ a p q. held.leading a p l q)
+            (leading_here l) z i j);
+    ending = λ z i y j. ended_waits c.lines after.lines z held.parts y
+        (λ d h. waits_alike c.lines after.lines y.session z.me d (client_still y.session) h)
+        (each_after (λ a. In y a.ending → IsEnded c.lines a held.parts y) c.servers k t (λ a p q. held.ending a p y q)
+            (ending_here y) z i j);
+    ready = λ z i r j. each_after (λ a. In r a.prepared → find (is_part r.txn r.number) a.prepared ≡ Some r) c.servers k t
+        (λ a p q. held.ready a p r q)
         (λ q. ap (find (is_part r.txn r.number)) leaves.prepared ∙ held.ready s here r (subst (In r) leaves.prepared q)) z i j;
     locks = λ z i. each_after (λ a. LocksHold a.rows (said_at a) (kept_at a)) c.servers k t held.locks locks_here z i;
     files = files_still held.parts (stage_of_key c.servers) (stage_of_key after.servers) (λ key n u. n (stage_still key ∙ u)) held.files;
@@ -222,15 +243,19 @@ module _ (by : Session) (c : Cluster) (held : LedHolds c) (journal : List Item) 
         of : (b : Bool) → (by.0 == y.0) ≡ b → IsLedBy later y n d
         of true t =
             let same : by ≡ y = one_session by y t in
-            subst (λ z. IsLedBy later z n d) same (leaves n d (subst (λ z. IsLedBy c.lines z n d) (sym same) h) (subst (λ z. (s : Server) × (In s c.servers × LeadsFor s z)) (sym same) leads))
+            subst (λ z. IsLedBy later z n d) same
+                (leaves n d (subst (λ z. IsLedBy c.lines z n d) (sym same) h)
+                (subst (λ z. (s : Server) × (In s c.servers × LeadsFor s z)) (sym same) leads))
         of false t = waits_alike c.lines later y n d (ap (λ b. (let l : Lines = cond b own (c.lines y) in l).client) t) h
 
     pub lines_keep_led : LedHolds then
     lines_keep_led = record {
       parts = held.parts;
       stages = held.stages;
-      leading = λ s i l j. leading_waits c.lines later s held.parts l (λ d h. waits_then l.leader.session s.me d h (s, (i, inl (l, (j, refl))))) (held.leading s i l j);
-      ending = λ s i x j. ended_waits c.lines later s held.parts x (λ d h. waits_then x.session s.me d h (s, (i, inr (x, (j, refl))))) (held.ending s i x j);
+      leading = λ s i l j. leading_waits c.lines later s held.parts l
+          (λ d h. waits_then l.leader.session s.me d h (s, (i, inl (l, (j, refl))))) (held.leading s i l j);
+      ending = λ s i x j. ended_waits c.lines later s held.parts x (λ d h. waits_then x.session s.me d h (s, (i, inr (x, (j, refl)))))
+          (held.ending s i x j);
       ready = held.ready;
       locks = held.locks;
       files = held.files;
@@ -238,10 +263,13 @@ module _ (by : Session) (c : Cluster) (held : LedHolds c) (journal : List Item) 
       told = held.told;
     }
 
-pub plan_keeps_led : {N : Type 0} (by : Session) (rest : List (ℕ × Answer)) (p : Plan N) (c : Cluster) → LedHolds c → LeavesLedClient by c (after_plan by rest p c).lines → LedHolds (after_plan by rest p c)
+pub plan_keeps_led : {N : Type 0} (by : Session) (rest : List (ℕ × Answer)) (p : Plan N) (c : Cluster) → LedHolds c
+    → LeavesLedClient by c (after_plan by rest p c).lines → LedHolds (after_plan by rest p c)
 plan_keeps_led by rest p c held leaves = lines_keep_led by c held (after_plan by rest p c).journal (after_plan by rest p c).replied _ leaves
 
-pub client_keeps_led : (by : Session) (now : ℕ) (e : ClientEvent) (c : Cluster) → LedHolds c → LeavesLedClient by c (after_client by now e c).lines → LedHolds (after_client by now e c)
+pub client_keeps_led : (by : Session) (now : ℕ) (e : ClientEvent) (c : Cluster) → LedHolds c
+    → LeavesLedClient by c (after_client by now e c).lines → LedHolds (after_client by now e c)
 client_keeps_led by now (Does o) c held leaves = plan_keeps_led by (c.lines by).down (act_plan (c.lines by).client now o) c held leaves
 client_keeps_led by now Turns c held leaves = plan_keeps_led by (c.lines by).down (turn_plan (c.lines by).client now) c held leaves
-client_keeps_led by now (Hears from a) c held leaves = plan_keeps_led by (without_first (is_with from) (c.lines by).down) (answer_plan (c.lines by).client now from a) c held leaves
+client_keeps_led by now (Hears from a) c held leaves =
+    plan_keeps_led by (without_first (is_with from) (c.lines by).down) (answer_plan (c.lines by).client now from a) c held leaves

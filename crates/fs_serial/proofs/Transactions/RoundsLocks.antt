@@ -1,6 +1,6 @@
 -- The rows that the first parts of a transaction lock at its leader, and what is sent for the others.
-use Rattle.std.proofs.Common.{◌≡◌, ◌+◌, ◌==◌, ℕ, zero, suc, Bool, true, false, List, [], ◌∷◌, ◌++◌, length, append_assoc, append-nil, refl, sym, ap, ◌∙◌, subst, cond, filter, map, inl, inr, arith, length-append}
-use Rattle.std.specs.Prelude.{◌⊎◌, Option, Some, None, slice_get, is_some}
+use Rattle.std.proofs.Common.{◌≡◌, ◌+◌, ◌==◌, ℕ, suc, Bool, true, false, List, [], ◌∷◌, ◌++◌, length, append_assoc, append-nil, refl, sym, ap, ◌∙◌, subst, cond, filter, inl, inr, arith, length-append}
+use Rattle.std.specs.Prelude.{◌⊎◌, Option, Some, None, slice_get}
 use Rattle.std.specs.List.{flat_map}
 use Rattle.std.proofs.lemmas.List.Elements.{filter-append, filter_map-append}
 use Rattle.std.proofs.lemmas.List.Concat.{flat_map-append}
@@ -10,17 +10,15 @@ use Rattle.fs_ident.specs.declared.actor.Peer.TheVariants.{Client as OfSession, 
 use Rattle.fs_ident.specs.declared.actor.Session.{Session}
 use Rattle.fs_ident.specs.declared.actor.TxnNo.{TxnNo}
 use Rattle.fs_ident.proofs.Same.{itself}
-use Rattle.fs_ident.proofs.Standing.{In-behind, In-both, In-front, In-mapped}
+use Rattle.fs_ident.proofs.Standing.{In-behind, In-both, In-front}
 use Rattle.fs_field.specs.Table.{is_ordered}
 use Rattle.fs_field.specs.declared.effect.Effect.{Effect}
 use Rattle.fs_field.specs.declared.row.Row.{Row}
 use Rattle.fs_field.specs.declared.used.Part.{Part}
-use Rattle.fs_field.specs.declared.used.Use.{Use}
 use Rattle.fs_field.specs.declared.vote.Vote.{Vote}
 use Rattle.fs_field.specs.declared.vote.Vote.TheVariants.{Yes, Ended, Moved, PathsOut}
-use Rattle.fs_field.proofs.Leases.{SameLease}
 use Rattle.fs_field.proofs.Order.{ordered_map}
-use Rattle.fs_map.specs.Map.{longest, server_of}
+use Rattle.fs_map.specs.Map.{server_of}
 use Rattle.fs_msg.specs.declared.lead.Lead.{Lead as ToLead}
 use Rattle.fs_msg.specs.declared.msg.Msg.{Msg}
 use Rattle.fs_msg.specs.declared.msg.Msg.TheVariants as msg
@@ -29,54 +27,59 @@ use Rattle.fs_server.specs.Counts.{ask_for}
 use Rattle.fs_server.specs.Follows.{to_server, vote_here}
 use Rattle.fs_server.specs.Server.{is_mine}
 use Rattle.fs_server.specs.Ships.{first_gone}
-use Rattle.fs_server.specs.declared.state.Server.{Server}
-use Rattle.fs_txn.specs.Leading.{agreed_part, own_parts, said_by, said_yes, yes_from}
+use Rattle.fs_txn.specs.Leading.{agreed_part, said_by, said_yes, yes_from}
 use Rattle.fs_txn.specs.Locks.{Agreed, IsKept, IsOf, Kept, LocksHold}
-use Rattle.fs_txn.specs.Preparing.{moved_to, row_locked, rows_voted, vote_by}
+use Rattle.fs_txn.specs.Preparing.{row_locked, rows_voted}
 use Rattle.fs_txn.specs.Stages.{Key, Told, word_to}
 use Rattle.fs_txn.specs.Stages.Word.{Decide, Prepare}
 use Rattle.fs_txn.specs.Votes.{Votes}
 use Rattle.fs_txn.specs.declared.leading.Leading.{Leading}
-use Rattle.fs_txn.proofs.Locking.{stays, used_same, yes_by, yes_here}
+use Rattle.fs_txn.proofs.Locking.{used_same}
 use Rattle.fs_serial.specs.Cluster.{InFlight, in_flight_from}
 use Rattle.fs_serial.specs.Words.{key_of, telling_of, told_in, told_with}
+use Rattle.fs_serial.proofs.Transactions.OwnVotes.{voted_stay, yes_stands}
 use Rattle.fs_serial.proofs.Transactions.Tables.{locks_alike, said_its}
 use Rattle.fs_serial.proofs.Transactions.YesLocks.{yes_locks}
 
 -- ## Votes in their order
 
 -- the last of them, behind the others
-yes_last : (number : ℕ) (vs : Votes) (ks : List ℕ) (v : Option Vote) (k : ℕ) → length vs ≡ length ks → yes_from number (vs ++ v ∷ []) (ks ++ k ∷ []) ≡ yes_from number vs ks ++ cond (said_yes v) ((number + length vs, k) ∷ []) []
+yes_last : (number : ℕ) (vs : Votes) (ks : List ℕ) (v : Option Vote) (k : ℕ) → length vs ≡ length ks
+    → yes_from number (vs ++ v ∷ []) (ks ++ k ∷ []) ≡ yes_from number vs ks ++ cond (said_yes v) ((number + length vs, k) ∷ []) []
 yes_last number [] [] v k same = ap (λ n. cond (said_yes v) ((n, k) ∷ []) []) (omega arith)
 yes_last number [] (y ∷ ks) v k same = absurd (cc)
 yes_last number (x ∷ vs) [] v k same = absurd (cc)
 yes_last number (x ∷ vs) (y ∷ ks) v k same =
-    let rest : yes_from (number + 1) (vs ++ v ∷ []) (ks ++ k ∷ []) ≡ yes_from (number + 1) vs ks ++ cond (said_yes v) ((number + length (x ∷ vs), k) ∷ []) [] =
+    let rest : yes_from (number + 1) (vs ++ v ∷ []) (ks ++ k ∷ [])
+        ≡ yes_from (number + 1) vs ks ++ cond (said_yes v) ((number + length (x ∷ vs), k) ∷ []) [] =
         yes_last (number + 1) vs ks v k (cc) ∙ ap (λ n. yes_from (number + 1) vs ks ++ cond (said_yes v) ((n, k) ∷ []) []) (omega arith) in
-    elim (said_yes x) as (λ b. cond b ((number, y) ∷ yes_from (number + 1) (vs ++ v ∷ []) (ks ++ k ∷ [])) (yes_from (number + 1) (vs ++ v ∷ []) (ks ++ k ∷ [])) ≡ cond b ((number, y) ∷ yes_from (number + 1) vs ks) (yes_from (number + 1) vs ks) ++ cond (said_yes v) ((number + length (x ∷ vs), k) ∷ []) []) [
+    elim (said_yes x) as
+        (λ b. cond b ((number, y) ∷ yes_from (number + 1) (vs ++ v ∷ []) (ks ++ k ∷ []))
+        (yes_from (number + 1) (vs ++ v ∷ []) (ks ++ k ∷ []))
+        ≡ cond b ((number, y) ∷ yes_from (number + 1) vs ks) (yes_from (number + 1) vs ks) ++ cond (said_yes v)
+        ((number + length (x ∷ vs), k) ∷ []) []) [
       | true ↦ ap (λ ys. (number, y) ∷ ys) rest
       | false ↦ rest
     ]
 
--- a Yes of the server says that no row is gone
-pub yes_stands : (s : Server) (by : Session) (p : Part) → is_mine s p.file ≡ true → vote_here s by p ≡ Yes → first_gone s.rows by p.uses ≡ None
-yes_stands s by p mine h = yes_by (first_gone s.rows by p.uses) None s.last (yes_here (is_mine s p.file) (vote_by (first_gone s.rows by p.uses) None s.last) (moved_to (longest s.map p.file)) (λ e. absurd (cc e)) h)
-
 -- ## One part more
 
-abbrev round_by : TxnNo → ℕ → Session → Part → Round → Bool → Round
-round_by txn number by p r b = cond b (own_part txn p (vote_here r.server by p) r) (asked_part txn number by p (server_of r.server.map p.file) r)
+abbrev pub round_by : TxnNo → ℕ → Session → Part → Round → Bool → Round
+round_by txn number by p r b =
+    cond b (own_part txn p (vote_here r.server by p) r) (asked_part txn number by p (server_of r.server.map p.file) r)
 
-round_me : (txn : TxnNo) (number : ℕ) (by : Session) (p : Part) (r : Round) → (part_round txn number by p r).server.me ≡ r.server.me
-round_me txn number by p r = elim (is_mine r.server p.file) as (λ b. (round_by txn number by p r b).server.me ≡ r.server.me) [ true ↦ refl | false ↦ refl ]
+pub round_me : (txn : TxnNo) (number : ℕ) (by : Session) (p : Part) (r : Round) → (part_round txn number by p r).server.me ≡ r.server.me
+round_me txn number by p r =
+    elim (is_mine r.server p.file) as (λ b. (round_by txn number by p r b).server.me ≡ r.server.me) [ true ↦ refl | false ↦ refl ]
 
-round_at : (txn : TxnNo) (number : ℕ) (by : Session) (p : Part) (r : Round) → length (part_round txn number by p r).at ≡ length r.at + 1
+pub round_at : (txn : TxnNo) (number : ℕ) (by : Session) (p : Part) (r : Round) → length (part_round txn number by p r).at ≡ length r.at + 1
 round_at txn number by p r = elim (is_mine r.server p.file) as (λ b. length (round_by txn number by p r b).at ≡ length r.at + 1) [
   | true ↦ length-append r.at (r.server.me ∷ [])
   | false ↦ length-append r.at (server_of r.server.map p.file ∷ [])
 ]
 
-round_votes : (txn : TxnNo) (number : ℕ) (by : Session) (p : Part) (r : Round) → length (part_round txn number by p r).votes ≡ length r.votes + 1
+pub round_votes : (txn : TxnNo) (number : ℕ) (by : Session) (p : Part) (r : Round)
+    → length (part_round txn number by p r).votes ≡ length r.votes + 1
 round_votes txn number by p r = elim (is_mine r.server p.file) as (λ b. length (round_by txn number by p r b).votes ≡ length r.votes + 1) [
   | true ↦ length-append r.votes (Some (vote_here r.server by p) ∷ [])
   | false ↦ length-append r.votes (None ∷ [])
@@ -84,7 +87,8 @@ round_votes txn number by p r = elim (is_mine r.server p.file) as (λ b. length 
 
 -- ## Part by part
 
-module _ (txn : TxnNo) (by : Session) (m : ToLead) (me : ℕ) (said : List Agreed) (kept : List Kept) (new : (s : TxnNo) → IsOf said s by ⊎ IsKept kept s by → ⊥) where
+module _ (txn : TxnNo) (by : Session) (m : ToLead) (me : ℕ) (said : List Agreed) (kept : List Kept)
+    (new : (s : TxnNo) → IsOf said s by ⊎ IsKept kept s by → ⊥) where
   -- the transaction, as it stands then
   abbrev pub led_so_far : Round → Leading
   led_so_far r = record { leader = leader_with txn by m r.votes; at = r.at }
@@ -109,27 +113,35 @@ module _ (txn : TxnNo) (by : Session) (m : ToLead) (me : ℕ) (said : List Agree
 
   said_more : (votes : Votes) (at : List ℕ) (v : Option Vote) (k : ℕ) → length votes ≡ length at
       → said_by me (record { leader = leader_with txn by m (votes ++ v ∷ []); at = at ++ k ∷ [] })
-      ≡ said_by me (record { leader = leader_with txn by m votes; at = at }) ++ flat_map of_number (filter at_me (cond (said_yes v) ((0 + length votes, k) ∷ []) []))
+      ≡ said_by me (record { leader = leader_with txn by m votes; at = at }) ++ flat_map of_number
+          (filter at_me (cond (said_yes v) ((0 + length votes, k) ∷ []) []))
   said_more votes at v k same =
       ap (λ xs. flat_map of_number (filter at_me xs)) (yes_last 0 votes at v k same)
       ∙ ap (flat_map of_number) (filter-append at_me (yes_from 0 votes at) (cond (said_yes v) ((0 + length votes, k) ∷ []) []))
       ∙ flat_map-append of_number (filter at_me (yes_from 0 votes at)) (filter at_me (cond (said_yes v) ((0 + length votes, k) ∷ []) []))
 
-  module _ (number : ℕ) (p : Part) (part : slice_get (parts_in m) number ≡ Some p) (r : Round) (at : length r.at ≡ number) (voted : length r.votes ≡ number) where
+  module _ (number : ℕ) (p : Part) (part : slice_get (parts_in m) number ≡ Some p) (r : Round) (at : length r.at ≡ number)
+      (voted : length r.votes ≡ number) where
     abbrev y : Agreed
     y = record { key = record { txn = txn; part = number }; wanted = record { session = by; part = p } }
 
     same : length r.votes ≡ length r.at
     same = voted ∙ sym at
 
-    not_said : (v : Option Vote) (k : ℕ) → said_yes v ≡ false → said_by me (record { leader = leader_with txn by m (r.votes ++ v ∷ []); at = r.at ++ k ∷ [] }) ≡ said_by me (led_so_far r)
-    not_said v k none = said_more r.votes r.at v k same ∙ ap (λ b. said_by me (led_so_far r) ++ flat_map of_number (filter at_me (cond b ((0 + length r.votes, k) ∷ []) []))) none ∙ append-nil (said_by me (led_so_far r))
+    not_said : (v : Option Vote) (k : ℕ) → said_yes v ≡ false
+        → said_by me (record { leader = leader_with txn by m (r.votes ++ v ∷ []); at = r.at ++ k ∷ [] }) ≡ said_by me (led_so_far r)
+    not_said v k none =
+        said_more r.votes r.at v k same ∙ ap
+        (λ b. said_by me (led_so_far r) ++ flat_map of_number (filter at_me (cond b ((0 + length r.votes, k) ∷ []) []))) none
+        ∙ append-nil (said_by me (led_so_far r))
 
-    is_said : said_by me (record { leader = leader_with txn by m (r.votes ++ Some Yes ∷ []); at = r.at ++ me ∷ [] }) ≡ said_by me (led_so_far r) ++ y ∷ []
+    is_said : said_by me (record { leader = leader_with txn by m (r.votes ++ Some Yes ∷ []); at = r.at ++ me ∷ [] })
+        ≡ said_by me (led_so_far r) ++ y ∷ []
     is_said =
         said_more r.votes r.at (Some Yes) me same
         ∙ ap (λ b. said_by me (led_so_far r) ++ flat_map of_number (cond b ((0 + length r.votes, me) ∷ []) [])) (itself me)
-        ∙ ap (λ n. said_by me (led_so_far r) ++ (agreed_part none_yet n (slice_get (parts_in m) n) ++ [])) (let e : 0 + length r.votes ≡ number = omega arith in e)
+        ∙ ap (λ n. said_by me (led_so_far r) ++ (agreed_part none_yet n (slice_get (parts_in m) n) ++ []))
+            (let e : 0 + length r.votes ≡ number = omega arith in e)
         ∙ ap (λ o. said_by me (led_so_far r) ++ (agreed_part none_yet number o ++ [])) part
 
     -- whoever locks a row of the session here is the transaction
@@ -143,14 +155,19 @@ module _ (txn : TxnNo) (by : Session) (m : ToLead) (me : ℕ) (said : List Agree
     ]
 
     -- a part that is not said Yes of locks nothing
-    unsaid : (rows : List Row) (v : Option Vote) (k : ℕ) → said_yes v ≡ false → LocksHold rows (said_so_far r) kept → LocksHold rows (said ++ said_by me (record { leader = leader_with txn by m (r.votes ++ v ∷ []); at = r.at ++ k ∷ [] })) kept
+    unsaid : (rows : List Row) (v : Option Vote) (k : ℕ) → said_yes v ≡ false → LocksHold rows (said_so_far r) kept
+        → LocksHold rows (said ++ said_by me (record { leader = leader_with txn by m (r.votes ++ v ∷ []); at = r.at ++ k ∷ [] })) kept
     unsaid rows v k none h = subst (λ ys. LocksHold rows (said ++ ys) kept) (sym (not_said v k none)) h
 
-    yes_said : first_gone r.server.rows by p.uses ≡ None → LocksSoFar r → LocksHold (rows_voted Yes txn p.uses r.server.rows) (said ++ said_by me (record { leader = leader_with txn by m (r.votes ++ Some Yes ∷ []); at = r.at ++ me ∷ [] })) kept
+    yes_said : first_gone r.server.rows by p.uses ≡ None → LocksSoFar r
+        → LocksHold (rows_voted Yes txn p.uses r.server.rows)
+        (said ++ said_by me (record { leader = leader_with txn by m (r.votes ++ Some Yes ∷ []); at = r.at ++ me ∷ [] })) kept
     yes_said none h =
         subst (λ ys. LocksHold (rows_voted Yes txn p.uses r.server.rows) (said ++ ys) kept) (sym is_said)
         (locks_alike (rows_voted Yes txn p.uses r.server.rows) (y ∷ said_so_far r) (said ++ (said_by me (led_so_far r) ++ y ∷ [])) kept kept
-        (λ z i. In-both z (said_so_far r) (y ∷ []) (In z (y ∷ said_so_far r)) (λ j. inr j) (λ j. elim j as (λ _. In z (y ∷ said_so_far r)) [ inl e ↦ inl e | inr l ↦ absurd l ]) (subst (In z) (sym (append_assoc said (said_by me (led_so_far r)) (y ∷ []))) i))
+        (λ z i. In-both z (said_so_far r) (y ∷ []) (In z (y ∷ said_so_far r)) (λ j. inr j)
+            (λ j. elim j as (λ _. In z (y ∷ said_so_far r)) [ inl e ↦ inl e | inr l ↦ absurd l ])
+            (subst (In z) (sym (append_assoc said (said_by me (led_so_far r)) (y ∷ []))) i))
         (λ z i. subst (In z) (append_assoc said (said_by me (led_so_far r)) (y ∷ [])) (elim i as (λ _. In z (said_so_far r ++ y ∷ [])) [
           | inl e ↦ In-behind z (said_so_far r) (y ∷ []) (inl e)
           | inr j ↦ In-front z (said_so_far r) (y ∷ []) j
@@ -158,14 +175,21 @@ module _ (txn : TxnNo) (by : Session) (m : ToLead) (me : ℕ) (said : List Agree
         (λ z i. i)
         (yes_locks r.server.rows (said_so_far r) kept y h.locks h.ordered none (own_lock h)))
 
-    own_locked : (v : Vote) → r.server.me ≡ me → is_mine r.server p.file ≡ true → vote_here r.server by p ≡ v → LocksSoFar r → LocksSoFar (own_part txn p v r)
+    own_locked : (v : Vote) → r.server.me ≡ me → is_mine r.server p.file ≡ true → vote_here r.server by p ≡ v → LocksSoFar r
+        → LocksSoFar (own_part txn p v r)
     own_locked Yes mine here says h = record {
       ordered = ordered_map (row_locked txn p.uses) (λ x. (used_same txn p.uses x).number) r.server.rows h.ordered;
-      locks = subst (λ k. LocksHold (rows_voted Yes txn p.uses r.server.rows) (said ++ said_by me (record { leader = leader_with txn by m (r.votes ++ Some Yes ∷ []); at = r.at ++ k ∷ [] })) kept) (sym mine) (yes_said (yes_stands r.server by p here says) h);
+      locks = subst
+          (λ k. LocksHold (rows_voted Yes txn p.uses r.server.rows)
+          (said ++ said_by me (record { leader = leader_with txn by m (r.votes ++ Some Yes ∷ []); at = r.at ++ k ∷ [] })) kept) (sym mine)
+          (yes_said (yes_stands r.server by p here says) h);
     }
-    own_locked (Ended n u w) mine here says h = record { ordered = h.ordered; locks = unsaid r.server.rows (Some (Ended n u w)) r.server.me refl h.locks }
-    own_locked (Moved q t) mine here says h = record { ordered = h.ordered; locks = unsaid r.server.rows (Some (Moved q t)) r.server.me refl h.locks }
-    own_locked (PathsOut n) mine here says h = record { ordered = h.ordered; locks = unsaid r.server.rows (Some (PathsOut n)) r.server.me refl h.locks }
+    own_locked (Ended n u w) mine here says h =
+        record { ordered = h.ordered; locks = unsaid r.server.rows (Some (Ended n u w)) r.server.me refl h.locks }
+    own_locked (Moved q t) mine here says h =
+        record { ordered = h.ordered; locks = unsaid r.server.rows (Some (Moved q t)) r.server.me refl h.locks }
+    own_locked (PathsOut n) mine here says h =
+        record { ordered = h.ordered; locks = unsaid r.server.rows (Some (PathsOut n)) r.server.me refl h.locks }
 
     asked_locked : (to : ℕ) → LocksSoFar r → LocksSoFar (asked_part txn number by p to r)
     asked_locked to h = record { ordered = h.ordered; locks = unsaid r.server.rows None to refl h.locks }
@@ -176,51 +200,64 @@ module _ (txn : TxnNo) (by : Session) (m : ToLead) (me : ℕ) (said : List Agree
       | false ↦ λ here. asked_locked (server_of r.server.map p.file) h
     ] refl
 
-  pub rounds_locked : (ps : List Part) (number : ℕ) (r : Round) → ((i : ℕ) (p : Part) → slice_get ps i ≡ Some p → slice_get (parts_in m) (number + i) ≡ Some p) → length r.at ≡ number → length r.votes ≡ number → r.server.me ≡ me
+  pub rounds_locked : (ps : List Part) (number : ℕ) (r : Round)
+      → ((i : ℕ) (p : Part) → slice_get ps i ≡ Some p → slice_get (parts_in m) (number + i) ≡ Some p) → length r.at ≡ number
+      → length r.votes ≡ number → r.server.me ≡ me
       → LocksSoFar r → LocksSoFar (rounds txn number by ps r)
   rounds_locked [] number r parts at voted mine h = h
   rounds_locked (p ∷ ps) number r parts at voted mine h =
       rounds_locked ps (number + 1) (part_round txn number by p r)
-      (λ i q e. subst (λ n. slice_get (parts_in m) n ≡ Some q) (let s : number + suc i ≡ (number + 1) + i = omega arith in s) (parts (suc i) q e))
-      (round_at txn number by p r ∙ ap (λ n. n + 1) at) (round_votes txn number by p r ∙ ap (λ n. n + 1) voted) (round_me txn number by p r ∙ mine)
-      (round_locked number p (subst (λ n. slice_get (parts_in m) n ≡ Some p) (let s : number + 0 ≡ number = omega arith in s) (parts 0 p refl)) r at voted mine h)
+      (λ i q e. subst (λ n. slice_get (parts_in m) n ≡ Some q) (let s : number + suc i ≡ (number + 1) + i = omega arith in s)
+          (parts (suc i) q e))
+      (round_at txn number by p r ∙ ap (λ n. n + 1) at) (round_votes txn number by p r ∙ ap (λ n. n + 1) voted)
+          (round_me txn number by p r ∙ mine)
+      (round_locked number p
+          (subst (λ n. slice_get (parts_in m) n ≡ Some p) (let s : number + 0 ≡ number = omega arith in s)
+          (parts 0 p refl)) r at voted mine h)
 
 -- ## What is sent
 
 -- no decision is told
 abbrev pub NoDecision : ℕ → List (Peer × Msg) → Type 0
-NoDecision k sent = (key : Key) (at : ℕ) (effects : List Effect) → In (word_to key at (Decide effects)) (telling_of (in_flight_from k sent)) → ⊥
+NoDecision k sent =
+    (key : Key) (at : ℕ) (effects : List Effect) → In (word_to key at (Decide effects)) (telling_of (in_flight_from k sent)) → ⊥
 
 pub sent_append : (k : ℕ) (xs ys : List (Peer × Msg)) → in_flight_from k (xs ++ ys) ≡ in_flight_from k xs ++ in_flight_from k ys
 sent_append k [] ys = refl
-sent_append k ((OfServer to, msg.Peer m) ∷ xs) ys = ap (λ fs. (let f : InFlight = record { from = k; to = to; message = m } in f) ∷ fs) (sent_append k xs ys)
+sent_append k ((OfServer to, msg.Peer m) ∷ xs) ys =
+    ap (λ fs. (let f : InFlight = record { from = k; to = to; message = m } in f) ∷ fs) (sent_append k xs ys)
 sent_append k ((OfServer to, msg.Client m) ∷ xs) ys = sent_append k xs ys
 sent_append k ((OfServer to, msg.Answer m) ∷ xs) ys = sent_append k xs ys
 sent_append k ((OfSession to, m) ∷ xs) ys = sent_append k xs ys
 
-pub asks_undecided : (k to : ℕ) (txn : TxnNo) (number : ℕ) (by : Session) (p : Part) (sent : List (Peer × Msg)) → NoDecision k sent → NoDecision k (sent ++ to_server to (ask_for txn number by p) ∷ [])
+pub asks_undecided : (k to : ℕ) (txn : TxnNo) (number : ℕ) (by : Session) (p : Part) (sent : List (Peer × Msg)) → NoDecision k sent
+    → NoDecision k (sent ++ to_server to (ask_for txn number by p) ∷ [])
 asks_undecided k to txn number by p sent none key at effects i =
     let ask : Told = told_with k to (key_of txn number, Prepare (record { session = by; part = p })) in
     In-both (word_to key at (Decide effects)) (telling_of (in_flight_from k sent)) (ask ∷ []) ⊥ (none key at effects)
-    (λ j. elim j as (λ _. ⊥) [ inl e ↦ let wrong : Decide effects ≡ Prepare (record { session = by; part = p }) = ap (λ (x : Told). x.word) e in absurd (cc) | inr z ↦ z ])
-    (subst (In (word_to key at (Decide effects))) (ap telling_of (sent_append k sent (to_server to (ask_for txn number by p) ∷ [])) ∙ filter_map-append told_in (in_flight_from k sent) _) i)
+    (λ j. elim j as
+        (λ _. ⊥) [ inl e ↦ let wrong : Decide effects ≡ Prepare (record { session = by; part = p }) = ap (λ (x : Told). x.word) e in
+        absurd (cc) | inr z ↦ z ])
+    (subst (In (word_to key at (Decide effects)))
+        (ap telling_of (sent_append k sent (to_server to (ask_for txn number by p) ∷ []))
+        ∙ filter_map-append told_in (in_flight_from k sent) _) i)
 
 -- ## What stays
 
-pub voted_stay : (v : Vote) (txn : TxnNo) (uses : List Use) (rows : List Row) (row : Row) (t : TxnNo) → In row rows → row.lock ≡ Some t → In row (rows_voted v txn uses rows)
-voted_stay Yes txn uses rows row t i e = subst (λ x. In x (rows_voted Yes txn uses rows)) (stays txn uses row (ap is_some e)) (In-mapped (row_locked txn uses) row rows i)
-voted_stay (Ended n u w) txn uses rows row t i e = i
-voted_stay (Moved q k) txn uses rows row t i e = i
-voted_stay (PathsOut n) txn uses rows row t i e = i
-
-pub rounds_rows_stay : (txn : TxnNo) (number : ℕ) (by : Session) (ps : List Part) (r : Round) (row : Row) (t : TxnNo) → In row r.server.rows → row.lock ≡ Some t → In row (rounds txn number by ps r).server.rows
+pub rounds_rows_stay : (txn : TxnNo) (number : ℕ) (by : Session) (ps : List Part) (r : Round) (row : Row) (t : TxnNo) → In row r.server.rows
+    → row.lock ≡ Some t → In row (rounds txn number by ps r).server.rows
 rounds_rows_stay txn number by [] r row t i e = i
 rounds_rows_stay txn number by (p ∷ ps) r row t i e =
     rounds_rows_stay txn (number + 1) by ps (part_round txn number by p r) row t
-    (elim (is_mine r.server p.file) as (λ b. In row (round_by txn number by p r b).server.rows) [ true ↦ voted_stay (vote_here r.server by p) txn p.uses r.server.rows row t i e | false ↦ i ])
+    (elim (is_mine r.server p.file) as
+        (λ b. In row (round_by txn number by p r b).server.rows) [ true ↦
+        voted_stay (vote_here r.server by p) txn p.uses r.server.rows row t i e | false ↦ i ])
     e
 
-pub rounds_undecided : (k : ℕ) (txn : TxnNo) (number : ℕ) (by : Session) (ps : List Part) (r : Round) → NoDecision k r.send → NoDecision k (rounds txn number by ps r).send
+pub rounds_undecided : (k : ℕ) (txn : TxnNo) (number : ℕ) (by : Session) (ps : List Part) (r : Round) → NoDecision k r.send
+    → NoDecision k (rounds txn number by ps r).send
 rounds_undecided k txn number by [] r none = none
 rounds_undecided k txn number by (p ∷ ps) r none = rounds_undecided k txn (number + 1) by ps (part_round txn number by p r)
-    (elim (is_mine r.server p.file) as (λ b. NoDecision k (round_by txn number by p r b).send) [ true ↦ none | false ↦ asks_undecided k (server_of r.server.map p.file) txn number by p r.send none ])
+    (elim (is_mine r.server p.file) as
+        (λ b. NoDecision k (round_by txn number by p r b).send) [ true ↦ none | false ↦
+        asks_undecided k (server_of r.server.map p.file) txn number by p r.send none ])

@@ -1,9 +1,7 @@
 -- A part says Yes at a server, which has its rows in one table.
-use Rattle.std.proofs.Common.{◌≡◌, ◌&&◌, Bool, true, false, List, ◌∷◌, ◌++◌, refl, sym, ap, ◌∙◌, subst, cond, not, filter, map, inl, inr}
+use Rattle.std.proofs.Common.{◌≡◌, ◌&&◌, Bool, true, false, List, ◌∷◌, ◌++◌, refl, sym, ap, ◌∙◌, subst, cond, not, filter, map}
 use Rattle.std.specs.Prelude.{Some, None, is_some}
 use Rattle.fs_ident.specs.In.{In}
-use Rattle.fs_ident.specs.declared.actor.LeaseNo.{LeaseNo}
-use Rattle.fs_ident.specs.declared.actor.Session.{Session}
 use Rattle.fs_ident.specs.declared.actor.TxnNo.{TxnNo}
 use Rattle.fs_ident.proofs.Standing.{In-behind, In-both, In-filter, In-front, In-map, In-mapped, any_In}
 use Rattle.fs_field.specs.Field.{tells_no_mode}
@@ -36,7 +34,8 @@ same_rows a b there back = record {
 
 -- ## Yes
 
-module _ (rows : List Row) (said : List Agreed) (kept : List Kept) (y : Agreed) (h : LocksHold rows said kept) (ordered : is_ordered rows ≡ true) (none : first_gone rows y.wanted.session y.wanted.part.uses ≡ None)
+module _ (rows : List Row) (said : List Agreed) (kept : List Kept) (y : Agreed) (h : LocksHold rows said kept)
+    (ordered : is_ordered rows ≡ true) (none : first_gone rows y.wanted.session y.wanted.part.uses ≡ None)
     (own : (r : Row) → In r rows → r.session ≡ y.wanted.session → (t : TxnNo) → r.lock ≡ Some t → t ≡ y.key.txn) where
   abbrev t : TxnNo
   t = y.key.txn
@@ -54,7 +53,8 @@ module _ (rows : List Row) (said : List Agreed) (kept : List Kept) (y : Agreed) 
   all_stand = all_found rows y.wanted.session uses none
 
   -- a row that is used is that of its lease
-  used_stands : (r : Row) → In r rows → is_used uses r ≡ true → (u : Use) × (In u uses × ((r.session ≡ y.wanted.session) × (r.field ≡ u.field)))
+  used_stands : (r : Row) → In r rows → is_used uses r ≡ true
+      → (u : Use) × (In u uses × ((r.session ≡ y.wanted.session) × (r.field ≡ u.field)))
   used_stands r i e =
       let q : (u : Use) × (In u uses × (has_no u.no r ≡ true)) = any_In (λ (u : Use). has_no u.no r) uses e in
       let p : Stands rows y.wanted.session q.0 = all_stand q.0 q.1.0 in
@@ -76,15 +76,20 @@ module _ (rows : List Row) (said : List Agreed) (kept : List Kept) (y : Agreed) 
   stand u i =
       let p : Stands rows y.wanted.session u = all_stand u i in
       elim (tells_no_mode u.field) as (λ b. tells_no_mode u.field ≡ b → HasRow (cond b off on) y.wanted.session u.no u.field u.kind) [
-        | true ↦ λ e. record { row = p.row; stands = kept_in is_off_modes p.row rows p.stands (ap tells_no_mode p.field ∙ e); number = p.number; session = p.session; field = p.field; kind = p.kind }
-        | false ↦ λ e. record { row = p.row; stands = kept_in (λ (x : Row). not (is_off_modes x)) p.row rows p.stands (ap not (ap tells_no_mode p.field ∙ e)); number = p.number; session = p.session; field = p.field; kind = p.kind }
+        | true ↦
+            λ e. record { row = p.row; stands = kept_in is_off_modes p.row rows p.stands (ap tells_no_mode p.field ∙ e); number = p.number;
+            session = p.session; field = p.field; kind = p.kind }
+        | false ↦
+            λ e. record { row = p.row; stands = kept_in (λ (x : Row). not (is_off_modes x)) p.row rows p.stands
+            (ap not (ap tells_no_mode p.field ∙ e)); number = p.number; session = p.session; field = p.field; kind = p.kind }
       ] refl
 
   free : (r : Row) → In r (off ++ on) → is_used uses r ≡ true → IsFree y r
   free r i e = let q = used_stands r (back r i) e in record { session = q.1.1.0; own = own r (back r i) q.1.1.0 }
 
   -- a row of one table is used by a lease on a field of it
-  its_uses : (keep : Use → Bool) (r : Row) → In r rows → ((u : Use) → r.field ≡ u.field → keep u ≡ true) → is_used (filter keep uses) r ≡ is_used uses r
+  its_uses : (keep : Use → Bool) (r : Row) → In r rows → ((u : Use) → r.field ≡ u.field → keep u ≡ true)
+      → is_used (filter keep uses) r ≡ is_used uses r
   its_uses keep r i passes = elim (is_used uses r) as (λ b. is_used uses r ≡ b → is_used (filter keep uses) r ≡ b) [
     | true ↦ λ e.
         let q : (u : Use) × (In u uses × (has_no u.no r ≡ true)) = any_In (λ (u : Use). has_no u.no r) uses e in
@@ -93,7 +98,8 @@ module _ (rows : List Row) (said : List Agreed) (kept : List Kept) (y : Agreed) 
         used_by (filter keep uses) q.0 r (kept_in keep q.0 uses q.1.0 (passes q.0 (ap (λ (x : Row). x.field) same ∙ p.field))) q.1.1
     | false ↦ λ e. elim (is_used (filter keep uses) r) as (λ b. is_used (filter keep uses) r ≡ b → b ≡ false) [
       | true ↦ λ g.
-          let q : (u : Use) × (In u (filter keep uses) × (has_no u.no r ≡ true)) = any_In (λ (u : Use). has_no u.no r) (filter keep uses) g in
+          let q : (u : Use) × (In u (filter keep uses) × (has_no u.no r ≡ true)) =
+              any_In (λ (u : Use). has_no u.no r) (filter keep uses) g in
           let wrong : true ≡ false = sym (used_by uses q.0 r (In-filter keep q.0 uses q.1.0) q.1.1) ∙ e in
           absurd (cc)
       | false ↦ λ g. refl
@@ -107,20 +113,23 @@ module _ (rows : List Row) (said : List Agreed) (kept : List Kept) (y : Agreed) 
   off_locked r i e = ap (λ b. row_if b r) (its_uses (λ (u : Use). tells_no_mode u.field) r i (λ u f. sym (ap tells_no_mode f) ∙ e))
 
   on_locked : (r : Row) → In r rows → not (is_off_modes r) ≡ true → row_locked t (uses_of_modes uses) r ≡ row_locked t uses r
-  on_locked r i e = ap (λ b. row_if b r) (its_uses (λ (u : Use). not (tells_no_mode u.field)) r i (λ u f. ap (λ g. not (tells_no_mode g)) (sym f) ∙ e))
+  on_locked r i e =
+      ap (λ b. row_if b r) (its_uses (λ (u : Use). not (tells_no_mode u.field)) r i (λ u f. ap (λ g. not (tells_no_mode g)) (sym f) ∙ e))
 
   abbrev both : List Row
   both = map (row_locked t (uses_off uses)) off ++ map (row_locked t (uses_of_modes uses)) on
 
   then_there : (r : Row) → In r both → In r (rows_locked t uses rows)
-  then_there r i = In-both r (map (row_locked t (uses_off uses)) off) (map (row_locked t (uses_of_modes uses)) on) (In r (rows_locked t uses rows))
+  then_there r i =
+      In-both r (map (row_locked t (uses_off uses)) off) (map (row_locked t (uses_of_modes uses)) on) (In r (rows_locked t uses rows))
       (λ j.
       let q : (x : Row) × (In x off × (r ≡ row_locked t (uses_off uses) x)) = In-map (row_locked t (uses_off uses)) r off j in
       let o : In q.0 rows × (is_off_modes q.0 ≡ true) = (In-filter is_off_modes q.0 rows q.1.0, passing is_off_modes rows q.0 q.1.0) in
       subst (λ x. In x (rows_locked t uses rows)) (sym (q.1.1 ∙ off_locked q.0 o.0 o.1)) (In-mapped (row_locked t uses) q.0 rows o.0))
       (λ j.
       let q : (x : Row) × (In x on × (r ≡ row_locked t (uses_of_modes uses) x)) = In-map (row_locked t (uses_of_modes uses)) r on j in
-      let o : In q.0 rows × (not (is_off_modes q.0) ≡ true) = (In-filter (λ (x : Row). not (is_off_modes x)) q.0 rows q.1.0, passing (λ (x : Row). not (is_off_modes x)) rows q.0 q.1.0) in
+      let o : In q.0 rows × (not (is_off_modes q.0) ≡ true) =
+          (In-filter (λ (x : Row). not (is_off_modes x)) q.0 rows q.1.0, passing (λ (x : Row). not (is_off_modes x)) rows q.0 q.1.0) in
       subst (λ x. In x (rows_locked t uses rows)) (sym (q.1.1 ∙ on_locked q.0 o.0 o.1)) (In-mapped (row_locked t uses) q.0 rows o.0))
       i
 
@@ -129,9 +138,12 @@ module _ (rows : List Row) (said : List Agreed) (kept : List Kept) (y : Agreed) 
       let q : (x : Row) × (In x rows × (r ≡ row_locked t uses x)) = In-map (row_locked t uses) r rows i in
       elim (is_off_modes q.0) as (λ b. is_off_modes q.0 ≡ b → In r both) [
         | true ↦ λ e. In-front r (map (row_locked t (uses_off uses)) off) (map (row_locked t (uses_of_modes uses)) on)
-            (subst (λ x. In x (map (row_locked t (uses_off uses)) off)) (off_locked q.0 q.1.0 e ∙ sym q.1.1) (In-mapped (row_locked t (uses_off uses)) q.0 off (kept_in is_off_modes q.0 rows q.1.0 e)))
+            (subst (λ x. In x (map (row_locked t (uses_off uses)) off)) (off_locked q.0 q.1.0 e ∙ sym q.1.1)
+                (In-mapped (row_locked t (uses_off uses)) q.0 off (kept_in is_off_modes q.0 rows q.1.0 e)))
         | false ↦ λ e. In-behind r (map (row_locked t (uses_off uses)) off) (map (row_locked t (uses_of_modes uses)) on)
-            (subst (λ x. In x (map (row_locked t (uses_of_modes uses)) on)) (on_locked q.0 q.1.0 (ap not e) ∙ sym q.1.1) (In-mapped (row_locked t (uses_of_modes uses)) q.0 on (kept_in (λ (x : Row). not (is_off_modes x)) q.0 rows q.1.0 (ap not e))))
+            (subst (λ x. In x (map (row_locked t (uses_of_modes uses)) on)) (on_locked q.0 q.1.0 (ap not e) ∙ sym q.1.1)
+                (In-mapped (row_locked t (uses_of_modes uses)) q.0 on
+                (kept_in (λ (x : Row). not (is_off_modes x)) q.0 rows q.1.0 (ap not e))))
       ] refl
 
   pub yes_locks : LocksHold (rows_locked t uses rows) (y ∷ said) kept
