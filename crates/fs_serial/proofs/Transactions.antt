@@ -25,3 +25,7 @@ pub mod LedDecided
 pub mod LedConcluded
 pub mod FitsAlike
 pub mod LedDone
+pub mod SeenMeanwhile
+pub mod ToldOrOwed
+pub mod StandsAfter
+pub mod PutOff

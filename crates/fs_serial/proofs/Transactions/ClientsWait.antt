@@ -77,7 +77,7 @@ hear_waits c now from n (answer.Led e) h t = absurd (cc t)
 
 -- ## No end is told while a transaction stands
 
-some_length : {X : Type 0} (x : X) (xs : List X) → In x xs → 1 ≤ length xs
+pub some_length : {X : Type 0} (x : X) (xs : List X) → In x xs → 1 ≤ length xs
 some_length x [] i = absurd i
 some_length x (y ∷ ys) i = omega arith
 
