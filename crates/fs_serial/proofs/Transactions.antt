@@ -25,3 +25,6 @@ pub mod LedDecided
 pub mod LedConcluded
 pub mod FitsAlike
 pub mod LedDone
+pub mod PlacesAfter
+pub mod YesElsewhere
+pub mod DecisionPlaces
