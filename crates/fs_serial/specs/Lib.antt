@@ -21,6 +21,8 @@ pub mod Decided
 pub mod Joined
 pub mod Cluster
 pub mod Places
+pub mod Words
+pub mod Leading
 pub mod Seen
 pub mod Runs
 pub mod Refusals

@@ -43,7 +43,8 @@ use Rattle.fs_server.specs.declared.decide.Decided.{Decided}
 use Rattle.fs_server.specs.declared.out.ServerOut.{ServerOut}
 use Rattle.fs_server.specs.declared.state.Server.{Server}
 use Rattle.fs_server.proofs.Kept.{leased_rows, with_parts}
-use Rattle.fs_server.proofs.Leading.{all_filtered, no_path, same_gone}
+use Rattle.fs_server.proofs.Effects.{all_filtered}
+use Rattle.fs_server.proofs.Leading.{no_path, same_gone}
 
 -- ## A vote
 

@@ -126,21 +126,7 @@ pub gone_behind : (rows : List Row) (by : Session) (xs : List Part) (i : ℕ) (d
     → first_gone rows by (uses_of xs) ≡ first_gone rows by (uses_of (drop i xs)) → first_gone rows by (uses_of xs) ≡ first_gone rows by (uses_of (drop (i + 1) xs))
 gone_behind rows by xs i d lt g h = h ∙ gone_step rows by xs i d lt ∙ ap (λ o. option_or o (first_gone rows by (uses_of (drop (i + 1) xs)))) g
 
-pub undoable_step : (xs : List Effect) (i : ℕ) (d : Effect) → i < length xs → filter is_undoable (drop i xs) ≡ cond (is_undoable (get_or xs i d)) (get_or xs i d ∷ filter is_undoable (drop (i + 1) xs)) (filter is_undoable (drop (i + 1) xs))
-undoable_step xs i d lt = rw (drop_more xs i d lt)
-
-pub removal_step : (xs : List Effect) (i : ℕ) (d : Effect) → i < length xs → filter takes_away (drop i xs) ≡ cond (takes_away (get_or xs i d)) (get_or xs i d ∷ filter takes_away (drop (i + 1) xs)) (filter takes_away (drop (i + 1) xs))
-removal_step xs i d lt = rw (drop_more xs i d lt)
-
 -- ## What is changed
-
-pub all_filtered : {X : Type 0} (test : X → Bool) (xs : List X) → list_all test (filter test xs) ≡ true
-all_filtered test [] = refl
-all_filtered test (x ∷ xs) = by (test x) refl (all_filtered test xs)
-  where
-    by : (b : Bool) → test x ≡ b → list_all test (filter test xs) ≡ true → list_all test (cond b (x ∷ filter test xs) (filter test xs)) ≡ true
-    by true t rest = ap₂ (λ a b. a && b) t rest
-    by false t rest = rest
 
 -- the effects of an admitted operation, what they take away behind the others
 pub removals_last : (m : RecordMap) (o : Op) (file : List ℕ) → records_after_all (records_after_all m (filter is_undoable (led_effects o file (reply_of o)))) (filter takes_away (led_effects o file (reply_of o))) ≡ records_after_all m (led_effects o file (reply_of o))

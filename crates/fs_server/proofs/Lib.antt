@@ -13,6 +13,7 @@ mod Moving
 mod Losing
 pub mod InOrder
 pub mod Making
+mod Effects
 pub mod Leading
 pub mod Following
 mod Gathering
@@ -20,3 +21,7 @@ mod LeaderLaws
 mod Splitting
 mod LeadingHere
 mod Beginning
+mod Owned
+mod Concluding
+mod Counting
+mod Goes

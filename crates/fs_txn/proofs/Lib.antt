@@ -14,3 +14,4 @@ pub mod Keys
 pub mod Telling
 pub mod Locked
 pub mod Waiting
+pub mod LeadingParts

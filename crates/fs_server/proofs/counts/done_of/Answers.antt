@@ -1,5 +1,5 @@
 use Rattle.std.proofs.Common.{refl}
-use Rattle.fs_server.proofs.Concluding.{done_can}
+use Rattle.fs_server.proofs.Counting.{done_can}
 use Rattle.fs_server.specs.declared.change.Change.TheVariants as change
 use Rattle.fs_server.specs.declared.decide.Decided.{Decided}
 use Rattle.fs_server.proofs.counts.done_of.Goals as goal

@@ -1,4 +1,4 @@
-use Rattle.fs_server.proofs.Concluding.{seeks_can, seeks_so}
+use Rattle.fs_server.proofs.Counting.{seeks_can, seeks_so}
 use Rattle.fs_server.proofs.counts.seeks.Goals as goal
 
 pub returns-clause-step : goal.returns-clause-step

@@ -1,5 +1,6 @@
 use Rattle.fs_record.specs.Applied.{is_undoable, takes_away}
-use Rattle.fs_server.proofs.Leading.{all_filtered, committed_so, effects_in, led_can}
+use Rattle.fs_server.proofs.Effects.{all_filtered}
+use Rattle.fs_server.proofs.Leading.{committed_so, effects_in, led_can}
 use Rattle.fs_server.specs.declared.decide.Decided.{Decided}
 use Rattle.fs_server.proofs.leads.commit.Goals as goal
 

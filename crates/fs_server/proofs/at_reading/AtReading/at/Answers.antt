@@ -20,6 +20,7 @@ returns-clause-ready c =
         reaps = c.requires.server.reaps;
         txns = c.requires.server.txns;
         numbers = subst (λ rows. AreGiven s.me s.given rows) (sym c.live.ensures.rows) (given_filter s.me s.given (is_live c.max-reading.result s.skew) s.rows c.requires.server.numbers);
+        whole = c.requires.server.whole;
       };
       table = c.live.ensures.valid;
     }

@@ -1,0 +1,136 @@
+-- Votes on parts of transactions that the server leads, and what is done of them.
+use Rattle.std.proofs.Common.{◌≡◌, ◌==◌, ◌+◌, ◌<◌, ◌^◌, ℕ, Bool, true, false, List, [], ◌∷◌, ◌++◌, length, refl, ap, ap₂, sym, ◌∙◌, subst, cond}
+use Rattle.std.specs.Prelude.{Option, Some, None, slice_set}
+use Rattle.std.proofs.lemmas.List.{length-set}
+use Rattle.fs_ident.specs.declared.actor.Peer.{Peer}
+use Rattle.fs_ident.specs.declared.actor.TxnNo.{TxnNo}
+use Rattle.fs_field.specs.Table.{same_txn, unlocked_row}
+use Rattle.fs_field.specs.declared.row.Row.{Row}
+use Rattle.fs_field.specs.declared.used.Part.{Part}
+use Rattle.fs_field.specs.declared.used.Use.{Use}
+use Rattle.fs_field.specs.declared.vote.Vote.{Vote}
+use Rattle.fs_field.specs.declared.vote.Vote.TheVariants.{Yes, Ended, Moved, PathsOut}
+use Rattle.fs_field.proofs.Leases.{unlocked_same}
+use Rattle.fs_msg.specs.declared.msg.Msg.{Msg}
+use Rattle.fs_msg.specs.declared.server_note.ServerNote.{ServerNote}
+use Rattle.fs_msg.specs.declared.server_note.ServerNote.TheVariants as note
+use Rattle.fs_rows.proofs.Numbers.{given_map}
+use Rattle.fs_txn.specs.Leading.{IsWholeLeader, ending_of, with_ending, without_done}
+use Rattle.fs_txn.specs.Locks.{rows_unlocked}
+use Rattle.fs_txn.specs.Preparing.{rows_locked, rows_voted}
+use Rattle.fs_txn.specs.Votes.{Votes, votes_after}
+use Rattle.fs_txn.specs.declared.leading.Ending.{Ending}
+use Rattle.fs_txn.specs.declared.leading.Leading.{Leading}
+use Rattle.fs_txn.proofs.Locking.{none_locked}
+use Rattle.fs_server.specs.Concludes.{goes_on, waits}
+use Rattle.fs_server.specs.Counts.{after_own_vote, ask_for, asked_at, counts, counts_own, done_with, seeks, with_vote}
+use Rattle.fs_server.specs.Decided.{CanDecide, stepped_by}
+use Rattle.fs_server.specs.Follows.{to_server}
+use Rattle.fs_server.specs.Gathered.{CanGoOn, IsWhole, keeping, uses_voted, waits_by}
+use Rattle.fs_server.specs.Grants.{IsReady}
+use Rattle.fs_server.specs.Plan.{CanChange, changed, done_change}
+use Rattle.fs_server.specs.Server.{Stepped}
+use Rattle.fs_server.specs.declared.change.Change.TheVariants as change
+use Rattle.fs_server.specs.declared.decide.Decided.{Decided}
+use Rattle.fs_server.specs.declared.state.Server.{Server}
+use Rattle.fs_server.proofs.Concluding.{waits_can, waits_so, with_led}
+use Rattle.fs_server.proofs.Kept.{leased_rows}
+
+-- ## No rows, or those of a part
+
+-- where no leases are used, nothing is kept
+pub keeps_none : (txn : TxnNo) (s : Server) → keeping false txn [] s ≡ s
+keeps_none txn s = ap (λ (rows : List Row). record s { rows = rows }) (none_locked txn s.rows)
+
+-- those of a part that said Yes
+pub keeps_voted : (vote : Vote) (txn : TxnNo) (p : Part) (s : Server) → keeping false txn (uses_voted vote p.uses) s ≡ after_own_vote txn p vote s
+keeps_voted Yes txn p s = refl
+keeps_voted (Ended lease until now) txn p s = keeps_none txn s
+keeps_voted (Moved prefix to) txn p s = keeps_none txn s
+keeps_voted (PathsOut lease) txn p s = keeps_none txn s
+
+-- ## All parts are there
+
+asked_whole : (number to : ℕ) (l : Leading) → IsWhole l → IsWhole (asked_at number to l)
+asked_whole number to l w = (w.0, record {
+  parts = w.1.parts;
+  asked = length-set l.at number to ∙ w.1.asked;
+  votes = w.1.votes;
+})
+
+votes_length : (vote : Vote) (votes : Votes) (number : ℕ) → length (votes_after votes number vote) ≡ length votes
+votes_length Yes votes number = length-set votes number (Some Yes)
+votes_length (Ended lease until now) votes number = length-set votes number (Some (Ended lease until now))
+votes_length (Moved prefix to) votes number = refl
+votes_length (PathsOut lease) votes number = length-set votes number (Some (PathsOut lease))
+
+voted_whole : (number : ℕ) (vote : Vote) (l : Leading) → IsWhole l → IsWhole (with_vote number vote l)
+voted_whole number vote l w = (w.0, record {
+  parts = w.1.parts;
+  asked = w.1.asked;
+  votes = votes_length vote l.leader.votes number ∙ w.1.votes;
+})
+
+-- it may go on where it goes on already
+pub goes_more : (l : Leading) (s : Server) → IsWhole l → CanGoOn false l s
+goes_more l s w = record { uses = w.0; whole = w.1; few = λ e. absurd (cc e) }
+
+pub counts_on : (number : ℕ) (vote : Vote) (l x : Leading) (s : Server) → IsWhole l → x ≡ with_vote number vote l → CanGoOn false x s
+counts_on number vote l x s w h = goes_more x s (subst IsWhole (sym h) (voted_whole number vote l w))
+
+pub own_on : (number : ℕ) (vote : Vote) (l x : Leading) (s : Server) → IsWhole l → x ≡ asked_at number s.me (with_vote number vote l) → CanGoOn false x s
+own_on number vote l x s w h = goes_more x s (subst IsWhole (sym h) (asked_whole number s.me (with_vote number vote l) (voted_whole number vote l w)))
+
+-- ## A vote
+
+-- it goes on, and keeps these rows
+pub goes_so : (n : ServerNote) (l x : Leading) (uses : List Use) (send : List (Peer × Msg)) (s t : Server) → x ≡ l → send ≡ [] → keeping false l.leader.txn uses s ≡ t
+    → goes_on n x send (keeping false x.leader.txn uses s) ≡ goes_on n l [] t
+goes_so n l x uses send s t h e k =
+    ap (λ (z : Leading). goes_on n z send (keeping false z.leader.txn uses s)) h ∙ ap₂ (λ (ms : List (Peer × Msg)) (u : Server). goes_on n l ms u) e k
+
+pub counts_so : (number : ℕ) (vote : Vote) (l x : Leading) (uses : List Use) (send : List (Peer × Msg)) (s : Server) → x ≡ with_vote number vote l → uses ≡ []
+    → send ≡ [] → goes_on (note.Waits l.leader.txn) x send (keeping false x.leader.txn uses s) ≡ counts number vote l s
+counts_so number vote l x uses send s h u e = goes_so (note.Waits l.leader.txn) (with_vote number vote l) x uses send s s h e
+    (ap (λ (us : List Use). keeping false l.leader.txn us s) u ∙ keeps_none l.leader.txn s)
+
+pub own_so : (number : ℕ) (p : Part) (vote : Vote) (l x : Leading) (uses : List Use) (send : List (Peer × Msg)) (s : Server)
+    → x ≡ asked_at number s.me (with_vote number vote l) → uses ≡ uses_voted vote p.uses → send ≡ []
+    → goes_on (note.Waits l.leader.txn) x send (keeping false x.leader.txn uses s) ≡ counts_own number p vote l s
+own_so number p vote l x uses send s h u e = goes_so (note.Waits l.leader.txn) (asked_at number s.me (with_vote number vote l)) x uses send s (after_own_vote l.leader.txn p vote s) h e
+    (ap (λ (us : List Use). keeping false l.leader.txn us s) u ∙ keeps_voted vote l.leader.txn p s)
+
+-- ## Another server is asked
+
+pub seeks_so : (number to : ℕ) (p : Part) (l : Leading) (s : Server) (x : Leading) (uses : List Use) (send : List (Peer × Msg)) (d : Decided) → x ≡ asked_at number to l
+    → uses ≡ [] → send ≡ to_server to (ask_for l.leader.txn number l.leader.session p) ∷ [] → d ≡ waits_by false (note.Seeks l.leader.txn to) x uses send
+    → stepped_by d s ≡ seeks number to p l s
+seeks_so number to p l s x uses send d h u m e =
+    let n : ServerNote = note.Seeks l.leader.txn to in
+    waits_so false n x uses send s d e
+    ∙ ap (λ (z : Leading). waits n z send (keeping false z.leader.txn uses s)) h
+    ∙ ap (λ (us : List Use). waits n (asked_at number to l) send (keeping false l.leader.txn us s)) u
+    ∙ ap₂ (λ (ms : List (Peer × Msg)) (t : Server). waits n (asked_at number to l) ms t) m (keeps_none l.leader.txn s)
+
+pub seeks_can : (number to : ℕ) (p : Part) (l : Leading) (s : Server) (x : Leading) (uses : List Use) (send : List (Peer × Msg)) (d : Decided) → IsReady s → IsWhole l
+    → x ≡ asked_at number to l → d ≡ waits_by false (note.Seeks l.leader.txn to) x uses send → CanDecide d s
+seeks_can number to p l s x uses send d r w h e =
+    waits_can false (note.Seeks l.leader.txn to) x uses send s d r (subst IsWhole (sym h) (asked_whole number to l w)) (λ f. absurd (cc f)) e
+
+-- ## Parts that are done
+
+finished_ready : (x : Ending) (awaits : List (ℕ × ℕ)) (s : Server) → IsReady s → IsReady (done_with x awaits s).server
+finished_ready x [] s r = with_led s s.records (rows_unlocked x.txn s.rows) s.leading (with_ending x s.ending) r
+    (given_map s.me s.given (unlocked_row x.txn) (unlocked_same x.txn) s.rows r.server.numbers)
+    (leased_rows (unlocked_row x.txn) (unlocked_same x.txn) s.rows r.table) r.server.whole
+finished_ready x (y ∷ ys) s r = with_led s s.records s.rows s.leading (with_ending x s.ending) r r.server.numbers r.table r.server.whole
+
+done_ready : (o : Option Ending) (number : ℕ) (s : Server) → IsReady s → IsReady (done_change o number s)
+done_ready None number s r = r
+done_ready (Some x) number s r = finished_ready (without_done number x) (without_done number x).awaits s r
+
+pub done_can : (txn : TxnNo) (number : ℕ) (s : Server) (d : Decided) → IsReady s → d.change ≡ change.Done txn number → CanDecide d s
+done_can txn number s d r ch = record {
+  change = subst (λ c. CanChange c s) (sym ch) tt;
+  ready = subst (λ c. IsReady (changed c s)) (sym ch) (done_ready (ending_of txn s.ending) number s r);
+}
