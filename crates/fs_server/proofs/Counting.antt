@@ -4,6 +4,7 @@ use Rattle.std.specs.Prelude.{Option, Some, None, slice_set}
 use Rattle.std.proofs.lemmas.List.{length-set}
 use Rattle.fs_ident.specs.declared.actor.Peer.{Peer}
 use Rattle.fs_ident.specs.declared.actor.TxnNo.{TxnNo}
+use Rattle.fs_ident.proofs.Passing.{found}
 use Rattle.fs_field.specs.Table.{same_txn, unlocked_row}
 use Rattle.fs_field.specs.declared.row.Row.{Row}
 use Rattle.fs_field.specs.declared.used.Part.{Part}
@@ -15,7 +16,7 @@ use Rattle.fs_msg.specs.declared.msg.Msg.{Msg}
 use Rattle.fs_msg.specs.declared.server_note.ServerNote.{ServerNote}
 use Rattle.fs_msg.specs.declared.server_note.ServerNote.TheVariants as note
 use Rattle.fs_rows.proofs.Numbers.{given_map}
-use Rattle.fs_txn.specs.Leading.{IsWholeLeader, ending_of, with_ending, without_done}
+use Rattle.fs_txn.specs.Leading.{ending_of, leading_of, with_ending, without_done}
 use Rattle.fs_txn.specs.Locks.{rows_unlocked}
 use Rattle.fs_txn.specs.Preparing.{rows_locked, rows_voted}
 use Rattle.fs_txn.specs.Votes.{Votes, votes_after}
@@ -134,3 +135,8 @@ done_can txn number s d r ch = record {
   change = subst (λ c. CanChange c s) (sym ch) tt;
   ready = subst (λ c. IsReady (changed c s)) (sym ch) (done_ready (ending_of txn s.ending) number s r);
 }
+
+-- ## The transaction of a vote
+
+pub whole_found : (txn : TxnNo) (l : Leading) (s : Server) → IsReady s → leading_of txn s.leading ≡ Some l → IsWhole l
+whole_found txn l s r h = r.server.whole l (found (λ (x : Leading). same_txn x.leader.txn txn) s.leading l h).0
