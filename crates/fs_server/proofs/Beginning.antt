@@ -44,7 +44,7 @@ all_places txn number by [] r = record { votes = omega arith; at = omega arith }
 all_places txn number by (p ∷ ps) r =
     let one : HasMore 1 r (part_round txn number by p r) = one_place txn number by p r in
     let rest : HasMore (length ps) (part_round txn number by p r)
-        (rounds txn (number + 1) by ps (part_round txn number by p r)) = all_places txn (number + 1) by ps (part_round txn number by p r) in
+    (rounds txn (number + 1) by ps (part_round txn number by p r)) = all_places txn (number + 1) by ps (part_round txn number by p r) in
     record { votes = omega arith; at = omega arith }
 
 -- ## The transaction goes on
@@ -61,7 +61,7 @@ module _ (by : Session) (m : Lead) (s : Server) (txn : TxnNo) (g : Gathered) (l 
   whole_so : IsWholeLeader (record { leader = leader_with txn by m g.votes; at = g.at }) m.uses
   whole_so =
       let many : HasMore (length (parts_in m)) (first_round s) (gathered_by g txn s) = subst
-          (HasMore (length (parts_in m)) (first_round s)) (sym gathered) (all_places txn 0 by (parts_in m) (first_round s)) in
+      (HasMore (length (parts_in m)) (first_round s)) (sym gathered) (all_places txn 0 by (parts_in m) (first_round s)) in
       record { parts = refl; asked = many.at ∙ none (length (parts_in m)); votes = many.votes ∙ none (length (parts_in m)) }
     where
       none : (n : ℕ) → 0 + n ≡ n

@@ -53,11 +53,14 @@ keeps_voted (PathsOut lease) txn p s = keeps_none txn s
 -- ## All parts are there
 
 asked_whole : (number to : ℕ) (l : Leading) → IsWhole l → IsWhole (asked_at number to l)
-asked_whole number to l w = (w.0, record {
-  parts = w.1.parts;
-  asked = length-set l.at number to ∙ w.1.asked;
-  votes = w.1.votes;
-})
+asked_whole number to l w = (
+  w.0,
+  record {
+    parts = w.1.parts;
+    asked = length-set l.at number to ∙ w.1.asked;
+    votes = w.1.votes;
+  },
+)
 
 votes_length : (vote : Vote) (votes : Votes) (number : ℕ) → length (votes_after votes number vote) ≡ length votes
 votes_length Yes votes number = length-set votes number (Some Yes)
@@ -66,11 +69,14 @@ votes_length (Moved prefix to) votes number = refl
 votes_length (PathsOut lease) votes number = length-set votes number (Some (PathsOut lease))
 
 voted_whole : (number : ℕ) (vote : Vote) (l : Leading) → IsWhole l → IsWhole (with_vote number vote l)
-voted_whole number vote l w = (w.0, record {
-  parts = w.1.parts;
-  asked = w.1.asked;
-  votes = votes_length vote l.leader.votes number ∙ w.1.votes;
-})
+voted_whole number vote l w = (
+  w.0,
+  record {
+    parts = w.1.parts;
+    asked = w.1.asked;
+    votes = votes_length vote l.leader.votes number ∙ w.1.votes;
+  },
+)
 
 -- it may go on where it goes on already
 pub goes_more : (l : Leading) (s : Server) → IsWhole l → CanGoOn false l s

@@ -89,7 +89,7 @@ pub own_gathered : (g : Gathered) (txn : TxnNo) (number : ℕ) (by : Session) (p
     → part_round txn number by p (gathered_by g txn s) ≡ gathered_by (with_own (vote_here s by p) p.uses s.me g) txn s
 own_gathered g txn number by p s h =
     ap (λ b. cond b (own_part txn p (vote_here (keeping true txn g.uses s) by p) (gathered_by g txn s))
-        (asked_part txn number by p (server_of s.map p.file) (gathered_by g txn s))) h
+    (asked_part txn number by p (server_of s.map p.file) (gathered_by g txn s))) h
     ∙ ap (λ v. own_part txn p v (gathered_by g txn s)) (vote_kept true txn g.uses s by p)
     ∙ ap (λ rows. let x : Round = record {
       server = record s { txns = s.txns + 1; rows = rows };

@@ -70,15 +70,18 @@ rename_commits l sent s effects d o = ap₂ (λ d b. cond (keeps_rows d && b) s.
 pub rename_waits : (m : Done) (s : Server) (x : Ending) (y : ℕ × ℕ) (ys : List (ℕ × ℕ)) → ending_of m.txn s.ending ≡ Some x
     → awaits_done m.number x.awaits ≡ true
     → (without_done m.number x).awaits ≡ y ∷ ys → ((done_step m s).server.rows ≡ s.rows) × ((done_step m s).out.send ≡ [])
-rename_waits m s x y ys f a e = (ap (λ (t : Stepped). t.server.rows) (done_so m s x (y ∷ ys) f a e), ap (λ (t : Stepped). t.out.send)
-    (done_so m s x (y ∷ ys) f a e))
+rename_waits m s x y ys f a e = (
+  ap (λ (t : Stepped). t.server.rows) (done_so m s x (y ∷ ys) f a e),
+  ap (λ (t : Stepped). t.out.send)
+      (done_so m s x (y ∷ ys) f a e),
+)
 
 pub last_is_done : (m : Done) (s : Server) (x : Ending) → ending_of m.txn s.ending ≡ Some x → awaits_done m.number x.awaits ≡ true
     → (without_done m.number x).awaits ≡ [] → (r : Row) → In r (done_step m s).server.rows → is_lock_of m.txn r.lock ≡ false
 last_is_done m s x f a e r i =
     let its : x.txn ≡ m.txn = txn_is x.txn m.txn (found (λ (y : Ending). same_txn y.txn m.txn) s.ending x f).1 in
     none_kept m.txn s.rows r (subst (In r) (ap (λ (t : Stepped). t.server.rows) (done_so m s x [] f a e)
-        ∙ ap (λ txn. rows_unlocked txn s.rows) its) i)
+    ∙ ap (λ txn. rows_unlocked txn s.rows) its) i)
 
 -- ## What the session is told
 
@@ -86,7 +89,7 @@ pub told_at_once : (l : Leading) (sent : List (Peer × Msg)) (s : Server) → el
     → (concludes l sent s).out.send ≡ sent ++ to_session l.leader.session (answer.Led (end_of_decision (decision l.leader None))) ∷ []
 told_at_once l sent s h =
     ap (λ out. sent ++ (tells l.leader.txn (decision l.leader None) out ++ ends_now out l.leader.session
-        (end_of_decision (decision l.leader None)))) h
+    (end_of_decision (decision l.leader None)))) h
 
 pub told_later : (l : Leading) (sent : List (Peer × Msg)) (s : Server) → is_some (slice_get (elsewhere s.me l) 0) ≡ true
     → (concludes l sent s).out.send ≡ sent ++ tells l.leader.txn (decision l.leader None) (elsewhere s.me l)

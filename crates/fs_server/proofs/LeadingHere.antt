@@ -101,7 +101,7 @@ none_elsewhere me first (v ∷ vs) (p ∷ ps) = by (said_yes v) (none_elsewhere 
     by false rest = rest
     by true rest =
         ap (λ b. cond (not b) ((first, me) ∷ filter (λ (x : ℕ × ℕ). not (x.1 == me)) (yes_from (first + 1) vs (map (λ (p : Part). me) ps)))
-            (filter (λ (x : ℕ × ℕ). not (x.1 == me)) (yes_from (first + 1) vs (map (λ (p : Part). me) ps)))) (itself me)
+        (filter (λ (x : ℕ × ℕ). not (x.1 == me)) (yes_from (first + 1) vs (map (λ (p : Part). me) ps)))) (itself me)
         ∙ rest
 
 all_picked : (me : ℕ) (on : Part → List Effect) (ps : List Part)
@@ -109,7 +109,7 @@ all_picked : (me : ℕ) (on : Part → List Effect) (ps : List Part)
 all_picked me on [] = refl
 all_picked me on (p ∷ ps) =
     ap (λ b. cond b (on p ++ picked (λ k. k == me) (map (λ (p : Part). me) ps) (map on ps))
-        (picked (λ k. k == me) (map (λ (p : Part). me) ps) (map on ps))) (itself me)
+    (picked (λ k. k == me) (map (λ (p : Part). me) ps) (map on ps))) (itself me)
     ∙ ap (λ es. on p ++ es) (all_picked me on ps)
 
 -- ## The transaction
@@ -142,10 +142,10 @@ module _ (by : Session) (m : Lead) (s : Server) where
       at (Abort e) q = abort_changes_none s.me its e
       at (Commit r effects) q =
           let is : effects ≡ map (λ (p : Part). effects_on (led_effects m.op m.file r) p.file)
-              (parts_in m) = commit_effects its.leader r effects q in
+          (parts_in m) = commit_effects its.leader r effects q in
           let as_many : length effects ≡ length its.leader.votes = ap length is
-              ∙ length-map (parts_in m) (λ (p : Part). effects_on (led_effects m.op m.file r) p.file)
-              ∙ sym (length-map (parts_in m) (λ (p : Part). Some (vote_here s by p))) in
+          ∙ length-map (parts_in m) (λ (p : Part). effects_on (led_effects m.op m.file r) p.file)
+          ∙ sym (length-map (parts_in m) (λ (p : Part). Some (vote_here s by p))) in
           told_picked (λ k. k == s.me) r effects its (commit_yes its.leader None r effects q) as_many_asked as_many
           ∙ ap (picked (λ k. k == s.me) its.at) is
           ∙ all_picked s.me (λ (p : Part). effects_on (led_effects m.op m.file r) p.file) (parts_in m)

@@ -65,7 +65,7 @@ told_from test told first effects (v ∷ vs) [] t y a b = absurd (omega arith)
 told_from test told first [] (v ∷ vs) (k ∷ ks) t y a b = absurd (omega arith)
 told_from test told first (e ∷ es) (v ∷ vs) (k ∷ ks) t y a b =
     ap (λ yes. flat_map (λ (x : ℕ × ℕ). told x.0) (filter (λ (x : ℕ × ℕ). test x.1)
-        (cond yes ((first, k) ∷ yes_from (first + 1) vs ks) (yes_from (first + 1) vs ks)))) (ap said_yes (y v (inl refl)))
+    (cond yes ((first, k) ∷ yes_from (first + 1) vs ks) (yes_from (first + 1) vs ks)))) (ap said_yes (y v (inl refl)))
     ∙ by (test k) (told_from test told (first + 1) es vs ks (λ i. ap told (more first i) ∙ t (suc i)) (λ x i. y x (inr i)) (omega arith)
     (omega arith))
   where
@@ -206,18 +206,18 @@ module _ (me : ℕ) (l : Leading) (uses : List Use) (w : IsWholeLeader l uses) (
       by false n false t = refl
       by true n false t =
           let none : has_effect e (slice_get l.leader.parts k)
-              ≡ false = none_any (λ (x : ℕ × ℕ). has_effect e (slice_get l.leader.parts x.0)) (elsewhere me l) t (k, a)
-            (In_filtered (λ (x : ℕ × ℕ). not (x.1 == me)) (yes_from 0 l.leader.votes l.at) (k, a) there n) in
+          ≡ false = none_any (λ (x : ℕ × ℕ). has_effect e (slice_get l.leader.parts x.0)) (elsewhere me l) t (k, a)
+          (In_filtered (λ (x : ℕ × ℕ). not (x.1 == me)) (yes_from 0 l.leader.votes l.at) (k, a) there n) in
           let wrong : true ≡ false = sym s ∙ ap (has_effect e) (sym f) ∙ none in
           absurd (cc)
       by false n true t =
           let q = any_In (λ (x : ℕ × ℕ). has_effect e (slice_get l.leader.parts x.0)) (elsewhere me l) t in
           let o = out_yes 0 q.0 l.leader.votes l.at
-              (In-filter (λ (x : ℕ × ℕ). not (x.1 == me)) q.0 (yes_from 0 l.leader.votes l.at) q.1.0) in
+          (In-filter (λ (x : ℕ × ℕ). not (x.1 == me)) q.0 (yes_from 0 l.leader.votes l.at) q.1.0) in
           let away : not (q.0.1 == me) ≡ true = passes (λ (x : ℕ × ℕ). not (x.1 == me)) q.0 (yes_from 0 l.leader.votes l.at) q.1.0 in
           let number : q.0.0 ≡ o.0 = o.1.0 ∙ start o.0 in
           absurd (other o.0 q.0.1 (slice_get l.leader.parts o.0) refl
-              (ap (λ m. has_effect e (slice_get l.leader.parts m)) (sym number) ∙ q.1.1) o.1.1 away (k == o.0) refl)
+          (ap (λ m. has_effect e (slice_get l.leader.parts m)) (sym number) ∙ q.1.1) o.1.1 away (k == o.0) refl)
         where
           other : (j b : ℕ) (o : Option Part) → slice_get l.leader.parts j ≡ o → has_effect e (slice_get l.leader.parts j) ≡ true
               → slice_get l.at j ≡ Some b → not (b == me) ≡ true
@@ -232,7 +232,7 @@ module _ (me : ℕ) (l : Leading) (uses : List Use) (w : IsWholeLeader l uses) (
           other j b (Some z) r h i away false m =
               let its : same (changed_file e) z.file ≡ true = ap (has_effect e) (sym r) ∙ h in
               let apart : same p.file z.file ≡ false = part_files l.leader.op l.leader.file uses l.leader.mode k j p z m
-                  (ap (λ ps. slice_get ps k) (sym w.parts) ∙ f) (ap (λ ps. slice_get ps j) (sym w.parts) ∙ r) in
+              (ap (λ ps. slice_get ps k) (sym w.parts) ∙ f) (ap (λ ps. slice_get ps j) (sym w.parts) ∙ r) in
               let wrong : true ≡ false = sym its ∙ ap (λ x. same x z.file) (same_is (changed_file e) p.file s) ∙ apart in
               absurd (cc)
 
@@ -248,19 +248,18 @@ commit_splits me l uses r effects w h s d =
     let y : AreYes l.leader.votes = commit_yes l.leader None r effects d in
     let is : effects ≡ map (λ (p : Part). effects_on es p.file) l.leader.parts = commit_effects l.leader r effects d in
     let as_many : length effects ≡ length l.leader.votes = ap length is ∙ length-map l.leader.parts (λ (p : Part). effects_on es p.file)
-        ∙ sym w.votes in
+    ∙ sym w.votes in
     let shared : flat_map (λ (p : Part). effects_on es p.file) l.leader.parts ≡ es =
-        ap (flat_map (λ (p : Part). effects_on es p.file)) w.parts ∙ parts_share l.leader.op l.leader.file uses l.leader.mode r h s in
+    ap (flat_map (λ (p : Part). effects_on es p.file)) w.parts ∙ parts_share l.leader.op l.leader.file uses l.leader.mode r h s in
     let own : own_effects me l (Commit r effects) ≡ filter (λ e. not (goes_from me l e)) es =
-        told_picked (λ k. k == me) r effects l y (w.asked ∙ sym w.votes) as_many
-        ∙ ap (picked (λ k. k == me) l.at) is
-        ∙ picked_pass (λ k. k == me) (λ e. not (goes_from me l e)) es l.leader.parts l.at
-        (λ k p a f g e t. ap not (goes_so me l uses w y k p a f g e t) ∙ twice (a == me)) w.asked
-        ∙ ap (filter (λ e. not (goes_from me l e))) shared in
-    (
+    told_picked (λ k. k == me) r effects l y (w.asked ∙ sym w.votes) as_many
+    ∙ ap (picked (λ k. k == me) l.at) is
+    ∙ picked_pass (λ k. k == me) (λ e. not (goes_from me l e)) es l.leader.parts l.at
+    (λ k p a f g e t. ap not (goes_so me l uses w y k p a f g e t) ∙ twice (a == me)) w.asked
+    ∙ ap (filter (λ e. not (goes_from me l e))) shared in (
       λ m. ap (records_after_all m) own,
       told_picked (λ k. not (k == me)) r effects l y (w.asked ∙ sym w.votes) as_many
-      ∙ ap (picked (λ k. not (k == me)) l.at) is
-      ∙ picked_pass (λ k. not (k == me)) (goes_from me l) es l.leader.parts l.at (goes_so me l uses w y) w.asked
-      ∙ ap (filter (goes_from me l)) shared,
+          ∙ ap (picked (λ k. not (k == me)) l.at) is
+          ∙ picked_pass (λ k. not (k == me)) (goes_from me l) es l.leader.parts l.at (goes_so me l uses w y) w.asked
+          ∙ ap (filter (goes_from me l)) shared,
     )

@@ -20,8 +20,8 @@ returns-clause-step c =
     let vote : Vote = c.in_ok-vote.vote in
     subst (λ (y : Stepped). IfOk c.goes_on.result (λ d. stepped_by d c.args.at.now ≡ y))
     (own_so c.args.number c.args.part.now vote c.args.l.now c.ask.new.self c.uses_kept.new.uses _ c.args.at.now
-      (c.ask.ensures ∙ ap₂ (λ (z : Leading) (me : ℕ). asked_at c.args.number me z) c.in_ok-leading.ensures c.me.ensures)
-      (c.in_ok-uses_kept.ensures ∙ ap (λ (us : List Use). us ++ uses_voted vote c.args.part.now.uses) c.new-uses.ensures)
-      c.new.ensures
+    (c.ask.ensures ∙ ap₂ (λ (z : Leading) (me : ℕ). asked_at c.args.number me z) c.in_ok-leading.ensures c.me.ensures)
+    (c.in_ok-uses_kept.ensures ∙ ap (λ (us : List Use). us ++ uses_voted vote c.args.part.now.uses) c.new-uses.ensures)
+    c.new.ensures
     ∙ ap (λ (v : Vote). counts_own c.args.number c.args.part.now v c.args.l.now c.args.at.now) c.in_ok-vote.ensures)
     c.goes_on.ensures.step
