@@ -8,3 +8,8 @@ pub mod CommitPast
 pub mod Owing
 pub mod Applying
 pub mod DecidedKept
+pub mod Deciding
+pub mod ToldParts
+pub mod FileApart
+pub mod OwnApart
+pub mod GuardsAgain

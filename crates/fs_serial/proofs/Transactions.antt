@@ -23,4 +23,5 @@ pub mod GivesBack
 pub mod ClientsWait
 pub mod LedDecided
 pub mod LedConcluded
+pub mod FitsAlike
 pub mod LedDone

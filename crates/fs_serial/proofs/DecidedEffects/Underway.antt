@@ -200,7 +200,7 @@ place_one m file dir name e apart = elim (either_file file (changed_file e)) as 
   | inr other ↦ ap (λ (o : Option Record). parent_of (node_of o)) (node_beside m e file other)
 ]
 
-place_all : (m : RecordMap) (file dir name : List ℕ) (es : List Effect) → ((e : Effect) → In e es → IsApart (SetParent file dir name) e) → parent_of (node_of (get (records_after_all m es) file)) ≡ parent_of (node_of (get m file))
+pub place_all : (m : RecordMap) (file dir name : List ℕ) (es : List Effect) → ((e : Effect) → In e es → IsApart (SetParent file dir name) e) → parent_of (node_of (get (records_after_all m es) file)) ≡ parent_of (node_of (get m file))
 place_all m file dir name [] apart = refl
 place_all m file dir name (e ∷ es) apart = place_all (records_after m e) file dir name es (λ x i. apart x (inr i)) ∙ place_one m file dir name e (apart e (inl refl))
 

@@ -49,7 +49,7 @@ module _ (m : NodeMap) (tree : IsTree m) where
 -- ## The reply
 
 -- where a test gives another reply, it failed
-past : (m : NodeMap) (b : Bool) (r q : Reply) (t : Stepped) → (r ≡ q → ⊥) → (cond b (reply_alone m r) t).reply ≡ q → (b ≡ false) × (t.reply ≡ q)
+pub past : (m : NodeMap) (b : Bool) (r q : Reply) (t : Stepped) → (r ≡ q → ⊥) → (cond b (reply_alone m r) t).reply ≡ q → (b ≡ false) × (t.reply ≡ q)
 past m true r q t wrong h = absurd (wrong h)
 past m false r q t wrong h = (refl, h)
 
