@@ -25,7 +25,7 @@ use Rattle.fs_client.specs.Led.{is_led}
 use Rattle.fs_record.specs.Records.{RecordMap, nodes_of}
 use Rattle.fs_txn.specs.Parts.{source_of}
 use Rattle.fs_view.specs.LedLaws.{IsLed}
-use Rattle.fs_serial.proofs.Lists.Facts.{same_symm}
+use Rattle.fs_serial.proofs.Lists.Journals.{same_symm}
 use Rattle.fs_serial.proofs.LedOperations.Cycles.{past}
 
 -- the file is neither the directory of the operation's home nor the one that it leaves
