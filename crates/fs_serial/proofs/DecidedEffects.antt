@@ -13,3 +13,4 @@ pub mod ToldParts
 pub mod FileApart
 pub mod OwnApart
 pub mod GuardsAgain
+pub mod CommitSeen

@@ -11,3 +11,4 @@ pub mod PutRecords
 pub mod Joining
 pub mod Unseen
 pub mod Elsewhere
+pub mod RelockedRows

@@ -29,3 +29,6 @@ pub mod SeenMeanwhile
 pub mod ToldOrOwed
 pub mod StandsAfter
 pub mod PutOff
+pub mod PlacesAfter
+pub mod YesElsewhere
+pub mod DecisionPlaces

@@ -1,31 +1,24 @@
 -- A transaction begins.
-use Rattle.std.proofs.Common.{◌≡◌, ◌+◌, ◌<◌, ◌≤◌, ◌^◌, ℕ, Bool, true, false, List, [], ◌∷◌, ◌++◌, cond, length, get_or, drop, refl, ap, sym, ◌∙◌, subst, arith, length-append}
+use Rattle.std.proofs.Common.{◌≡◌, ◌+◌, ℕ, Bool, true, false, List, [], ◌∷◌, cond, length, refl, ap, sym, ◌∙◌, subst, arith, length-append}
 use Rattle.std.specs.Prelude.{Some, None}
-use Rattle.std.specs.List.{list_any}
-use Rattle.std.proofs.lemmas.List.{drop_all, drop_more, length-map}
-use Rattle.fs_ident.specs.Ident.{same}
 use Rattle.fs_ident.specs.declared.actor.Session.{Session}
 use Rattle.fs_ident.specs.declared.actor.TxnNo.{TxnNo}
 use Rattle.fs_field.specs.declared.used.Part.{Part}
-use Rattle.fs_model.specs.Asking.{home_of}
-use Rattle.fs_model.specs.declared.op.Op.{Op}
 use Rattle.fs_map.specs.Map.{server_of}
 use Rattle.fs_msg.specs.declared.core_error.Counter.TheVariants.{Transactions}
 use Rattle.fs_msg.specs.declared.lead.Lead.{Lead}
 use Rattle.fs_msg.specs.declared.server_note.ServerNote.TheVariants as note
 use Rattle.fs_txn.specs.Leading.{IsWholeLeader}
 use Rattle.fs_txn.specs.Numbers.{next_txn}
-use Rattle.fs_txn.specs.Parts.{led_files, part_at, source_of, with_file}
 use Rattle.fs_txn.specs.Votes.{is_full}
-use Rattle.fs_txn.specs.declared.mode.Mode2.TheVariants.{Plain}
-use Rattle.fs_txn.specs.declared.leader.Leader.{Leader}
 use Rattle.fs_txn.specs.declared.leading.Leading.{Leading}
-use Rattle.fs_server.specs.Begins.{Round, asked_part, begins, begun_with, first_round, leader_with, own_part, part_round, parts_in, round_of, rounds, txn_of}
+use Rattle.fs_server.specs.Begins.{Round, asked_part, begins, begun_with, first_round, leader_with}
+use Rattle.fs_server.specs.Begins.{own_part, part_round, parts_in, round_of, rounds, txn_of}
 use Rattle.fs_server.specs.Concludes.{concludes, goes_on, waits}
 use Rattle.fs_server.specs.Follows.{vote_here}
 use Rattle.fs_server.specs.Gathered.{CanGoOn, gathered_by, keeping}
 use Rattle.fs_server.specs.Grants.{IsReady}
-use Rattle.fs_server.specs.Server.{Stepped, is_mine}
+use Rattle.fs_server.specs.Server.{is_mine}
 use Rattle.fs_server.specs.Step.{counter_over}
 use Rattle.fs_server.specs.declared.begins.Gathered.{Gathered}
 use Rattle.fs_server.specs.declared.state.Server.{Server}
@@ -41,7 +34,8 @@ record HasMore (n : ℕ) (old new : Round) : Type 0 where
 one_place : (txn : TxnNo) (number : ℕ) (by : Session) (p : Part) (r : Round) → HasMore 1 r (part_round txn number by p r)
 one_place txn number by p r = at (is_mine r.server p.file)
   where
-    at : (b : Bool) → HasMore 1 r (cond b (own_part txn p (vote_here r.server by p) r) (asked_part txn number by p (server_of r.server.map p.file) r))
+    at : (b : Bool) → HasMore 1 r (cond b (own_part txn p (vote_here r.server by p) r)
+        (asked_part txn number by p (server_of r.server.map p.file) r))
     at true = record { votes = length-append r.votes (Some (vote_here r.server by p) ∷ []); at = length-append r.at (r.server.me ∷ []) }
     at false = record { votes = length-append r.votes (None ∷ []); at = length-append r.at (server_of r.server.map p.file ∷ []) }
 
@@ -49,12 +43,15 @@ all_places : (txn : TxnNo) (number : ℕ) (by : Session) (ps : List Part) (r : R
 all_places txn number by [] r = record { votes = omega arith; at = omega arith }
 all_places txn number by (p ∷ ps) r =
     let one : HasMore 1 r (part_round txn number by p r) = one_place txn number by p r in
-    let rest : HasMore (length ps) (part_round txn number by p r) (rounds txn (number + 1) by ps (part_round txn number by p r)) = all_places txn (number + 1) by ps (part_round txn number by p r) in
+    let rest : HasMore (length ps) (part_round txn number by p r)
+    (rounds txn (number + 1) by ps (part_round txn number by p r)) = all_places txn (number + 1) by ps (part_round txn number by p r) in
     record { votes = omega arith; at = omega arith }
 
 -- ## The transaction goes on
 
-module _ (by : Session) (m : Lead) (s : Server) (txn : TxnNo) (g : Gathered) (l : Leading) (next : next_txn s.me s.txns ≡ Some txn) (gathered : gathered_by g txn s ≡ rounds txn 0 by (parts_in m) (first_round s)) (its : l.leader ≡ leader_with txn by m g.votes) (at : l.at ≡ g.at) where
+module _ (by : Session) (m : Lead) (s : Server) (txn : TxnNo) (g : Gathered) (l : Leading) (next : next_txn s.me s.txns ≡ Some txn)
+    (gathered : gathered_by g txn s ≡ rounds txn 0 by (parts_in m) (first_round s)) (its : l.leader ≡ leader_with txn by m g.votes)
+    (at : l.at ≡ g.at) where
   pub begun_so : goes_on (note.Prepares txn) l g.send (keeping true l.leader.txn g.uses s) ≡ begins by m s
   begun_so =
       (λ i. goes_on (note.Prepares txn) (record { leader = its i; at = at i }) g.send (keeping true (its i).txn g.uses s))
@@ -63,7 +60,8 @@ module _ (by : Session) (m : Lead) (s : Server) (txn : TxnNo) (g : Gathered) (l 
 
   whole_so : IsWholeLeader (record { leader = leader_with txn by m g.votes; at = g.at }) m.uses
   whole_so =
-      let many : HasMore (length (parts_in m)) (first_round s) (gathered_by g txn s) = subst (HasMore (length (parts_in m)) (first_round s)) (sym gathered) (all_places txn 0 by (parts_in m) (first_round s)) in
+      let many : HasMore (length (parts_in m)) (first_round s) (gathered_by g txn s) = subst
+      (HasMore (length (parts_in m)) (first_round s)) (sym gathered) (all_places txn 0 by (parts_in m) (first_round s)) in
       record { parts = refl; asked = many.at ∙ none (length (parts_in m)); votes = many.votes ∙ none (length (parts_in m)) }
     where
       none : (n : ℕ) → 0 + n ≡ n
@@ -78,22 +76,27 @@ module _ (by : Session) (m : Lead) (s : Server) (txn : TxnNo) (g : Gathered) (l 
 
 -- ## No number is left
 
-counter_kept : (txn : TxnNo) (number : ℕ) (by : Session) (ps : List Part) (r : Round) → counter_over (rounds txn number by ps r).server ≡ counter_over r.server
+counter_kept : (txn : TxnNo) (number : ℕ) (by : Session) (ps : List Part) (r : Round)
+    → counter_over (rounds txn number by ps r).server ≡ counter_over r.server
 counter_kept txn number by [] r = refl
 counter_kept txn number by (p ∷ ps) r = counter_kept txn (number + 1) by ps (part_round txn number by p r) ∙ at (is_mine r.server p.file)
   where
-    at : (b : Bool) → counter_over (cond b (own_part txn p (vote_here r.server by p) r) (asked_part txn number by p (server_of r.server.map p.file) r)).server ≡ counter_over r.server
+    at : (b : Bool) → counter_over (cond b (own_part txn p (vote_here r.server by p) r)
+        (asked_part txn number by p (server_of r.server.map p.file) r)).server ≡ counter_over r.server
     at true = refl
     at false = refl
 
 counter_same : (by : Session) (m : Lead) (txn : TxnNo) (r : Round) → counter_over (begun_with by m txn r).server ≡ counter_over r.server
 counter_same by m txn r = at (is_full r.votes)
   where
-    at : (b : Bool) → counter_over (cond b (concludes (record { leader = leader_with txn by m r.votes; at = r.at }) r.send r.server) (waits (note.Prepares txn) (record { leader = leader_with txn by m r.votes; at = r.at }) r.send r.server)).server ≡ counter_over r.server
+    at : (b : Bool) → counter_over (cond b (concludes (record { leader = leader_with txn by m r.votes; at = r.at }) r.send r.server)
+        (waits (note.Prepares txn) (record { leader = leader_with txn by m r.votes; at = r.at }) r.send r.server)).server
+        ≡ counter_over r.server
     at true = refl
     at false = refl
 
-pub begun_spent : (by : Session) (m : Lead) (s : Server) → IsReady s → next_txn s.me s.txns ≡ None → counter_over (begins by m s).server ≡ Some Transactions
+pub begun_spent : (by : Session) (m : Lead) (s : Server) → IsReady s → next_txn s.me s.txns ≡ None
+    → counter_over (begins by m s).server ≡ Some Transactions
 begun_spent by m s r h =
     counter_same by m (txn_of s) (round_of by m s)
     ∙ counter_kept (txn_of s) 0 by (parts_in m) (first_round s)

@@ -137,7 +137,7 @@ concludes_so begins l uses send s d w others can is_decision is_elsewhere ch out
     ap₂ all out ch
     ∙ ap₂ (λ (v : Decision) (ys : List (ℕ × ℕ)). all (told_by v ys l.leader send) (change.Lead begins l.leader.txn uses (ends_by s.me l v ys))) is_decision is_elsewhere
     ∙ ap (λ (records : RecordMap). stepped (record ((concludes l send k).server) { records = records }) ((concludes l send k).out))
-      (own_order s.records s.me l can.uses None can.whole)
+    (own_order s.records s.me l can.uses None can.whole)
 
 pub concludes_can : (begins : Bool) (l : Leading) (uses : List Use) (s : Server) (d : Decided) (w : Decision) (others : List (ℕ × ℕ)) → IsReady s → CanGoOn begins l s
     → d.change ≡ change.Lead begins l.leader.txn uses (ends_by s.me l w others) → CanDecide d s
@@ -147,7 +147,7 @@ concludes_can begins l uses s d w others r can ch =
       change = subst (λ c. CanChange c s) (sym ch) (all_filtered is_undoable es, all_filtered takes_away es);
       ready = subst (λ c. IsReady (changed c s)) (sym ch)
           (ends_ready (filter is_undoable es) (filter takes_away es) (record { txn = l.leader.txn; session = l.leader.session; end = end_of_decision w; awaits = others }) (keeps_for w others)
-            l.leader.txn (keeping begins l.leader.txn uses s) (keeping_ready begins l.leader.txn uses s r can.few));
+          l.leader.txn (keeping begins l.leader.txn uses s) (keeping_ready begins l.leader.txn uses s r can.few));
     }
 
 -- ## Not decided yet

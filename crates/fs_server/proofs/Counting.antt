@@ -4,6 +4,7 @@ use Rattle.std.specs.Prelude.{Option, Some, None, slice_set}
 use Rattle.std.proofs.lemmas.List.{length-set}
 use Rattle.fs_ident.specs.declared.actor.Peer.{Peer}
 use Rattle.fs_ident.specs.declared.actor.TxnNo.{TxnNo}
+use Rattle.fs_ident.proofs.Passing.{found}
 use Rattle.fs_field.specs.Table.{same_txn, unlocked_row}
 use Rattle.fs_field.specs.declared.row.Row.{Row}
 use Rattle.fs_field.specs.declared.used.Part.{Part}
@@ -15,7 +16,7 @@ use Rattle.fs_msg.specs.declared.msg.Msg.{Msg}
 use Rattle.fs_msg.specs.declared.server_note.ServerNote.{ServerNote}
 use Rattle.fs_msg.specs.declared.server_note.ServerNote.TheVariants as note
 use Rattle.fs_rows.proofs.Numbers.{given_map}
-use Rattle.fs_txn.specs.Leading.{IsWholeLeader, ending_of, with_ending, without_done}
+use Rattle.fs_txn.specs.Leading.{ending_of, leading_of, with_ending, without_done}
 use Rattle.fs_txn.specs.Locks.{rows_unlocked}
 use Rattle.fs_txn.specs.Preparing.{rows_locked, rows_voted}
 use Rattle.fs_txn.specs.Votes.{Votes, votes_after}
@@ -52,11 +53,14 @@ keeps_voted (PathsOut lease) txn p s = keeps_none txn s
 -- ## All parts are there
 
 asked_whole : (number to : ℕ) (l : Leading) → IsWhole l → IsWhole (asked_at number to l)
-asked_whole number to l w = (w.0, record {
-  parts = w.1.parts;
-  asked = length-set l.at number to ∙ w.1.asked;
-  votes = w.1.votes;
-})
+asked_whole number to l w = (
+  w.0,
+  record {
+    parts = w.1.parts;
+    asked = length-set l.at number to ∙ w.1.asked;
+    votes = w.1.votes;
+  },
+)
 
 votes_length : (vote : Vote) (votes : Votes) (number : ℕ) → length (votes_after votes number vote) ≡ length votes
 votes_length Yes votes number = length-set votes number (Some Yes)
@@ -65,11 +69,14 @@ votes_length (Moved prefix to) votes number = refl
 votes_length (PathsOut lease) votes number = length-set votes number (Some (PathsOut lease))
 
 voted_whole : (number : ℕ) (vote : Vote) (l : Leading) → IsWhole l → IsWhole (with_vote number vote l)
-voted_whole number vote l w = (w.0, record {
-  parts = w.1.parts;
-  asked = w.1.asked;
-  votes = votes_length vote l.leader.votes number ∙ w.1.votes;
-})
+voted_whole number vote l w = (
+  w.0,
+  record {
+    parts = w.1.parts;
+    asked = w.1.asked;
+    votes = votes_length vote l.leader.votes number ∙ w.1.votes;
+  },
+)
 
 -- it may go on where it goes on already
 pub goes_more : (l : Leading) (s : Server) → IsWhole l → CanGoOn false l s
@@ -134,3 +141,8 @@ done_can txn number s d r ch = record {
   change = subst (λ c. CanChange c s) (sym ch) tt;
   ready = subst (λ c. IsReady (changed c s)) (sym ch) (done_ready (ending_of txn s.ending) number s r);
 }
+
+-- ## The transaction of a vote
+
+pub whole_found : (txn : TxnNo) (l : Leading) (s : Server) → IsReady s → leading_of txn s.leading ≡ Some l → IsWhole l
+whole_found txn l s r h = r.server.whole l (found (λ (x : Leading). same_txn x.leader.txn txn) s.leading l h).0

@@ -1,5 +1,6 @@
 -- What becomes of the first parts of a transaction that begins.
-use Rattle.std.proofs.Common.{◌≡◌, ◌&&◌, ◌+◌, ℕ, Bool, true, false, not, List, [], ◌∷◌, ◌++◌, cond, refl, ap, ap₂, sym, ◌∙◌, append_assoc, map}
+use Rattle.std.proofs.Common.{◌≡◌, ◌&&◌, ◌+◌, ℕ, Bool, true, false, not, List, []}
+use Rattle.std.proofs.Common.{◌∷◌, ◌++◌, cond, refl, ap, ap₂, sym, ◌∙◌, append_assoc, map}
 use mathlib.Core.Path.{fun_ext}
 use Rattle.std.specs.Prelude.{◌||◌, Some, None, is_some}
 use Rattle.std.specs.List.{find, flat_map}
@@ -19,8 +20,7 @@ use Rattle.fs_txn.specs.Preparing.{is_used, moved_to, row_locked, rows_locked, r
 use Rattle.fs_txn.specs.Votes.{Votes}
 use Rattle.fs_txn.proofs.Locking.{locked, none_locked, stays}
 use Rattle.fs_server.specs.Begins.{Round, asked_part, first_round, own_part, part_round, rounds}
-use Rattle.fs_server.specs.Counts.{ask_for}
-use Rattle.fs_server.specs.Follows.{to_server, vote_here}
+use Rattle.fs_server.specs.Follows.{vote_here}
 use Rattle.fs_server.specs.Gathered.{gathered_by, keeping, uses_voted}
 use Rattle.fs_server.specs.Leads.{has_all}
 use Rattle.fs_server.specs.Server.{is_mine}
@@ -36,17 +36,20 @@ both_rows txn us vs r =
     by (is_used us r) (is_some r.lock) refl
     ∙ ap (λ b. cond (b && not (is_some r.lock)) (locked txn r) r) (sym (list_any-append (λ (u : Use). has_no u.no r) us vs))
   where
-    by : (a s : Bool) → is_some r.lock ≡ s → row_locked txn vs (cond (a && not s) (locked txn r) r) ≡ cond ((a || is_used vs r) && not (is_some r.lock)) (locked txn r) r
+    by : (a s : Bool) → is_some r.lock ≡ s → row_locked txn vs (cond (a && not s) (locked txn r) r)
+        ≡ cond ((a || is_used vs r) && not (is_some r.lock)) (locked txn r) r
     by true true e = stays txn vs r e ∙ ap (λ t. cond (not t) (locked txn r) r) (sym e)
     by true false e = stays txn vs (locked txn r) refl ∙ ap (λ t. cond (not t) (locked txn r) r) (sym e)
     by false s e = refl
 
-pub both_locked : (txn : TxnNo) (us vs : List Use) (rows : List Row) → rows_locked txn vs (rows_locked txn us rows) ≡ rows_locked txn (us ++ vs) rows
+pub both_locked : (txn : TxnNo) (us vs : List Use) (rows : List Row)
+    → rows_locked txn vs (rows_locked txn us rows) ≡ rows_locked txn (us ++ vs) rows
 both_locked txn us vs [] = refl
 both_locked txn us vs (r ∷ rs) = ap₂ (λ x xs. x ∷ xs) (both_rows txn us vs r) (both_locked txn us vs rs)
 
 -- a vote more
-pub voted_locked : (v : Vote) (txn : TxnNo) (us vs : List Use) (rows : List Row) → rows_voted v txn vs (rows_locked txn us rows) ≡ rows_locked txn (us ++ uses_voted v vs) rows
+pub voted_locked : (v : Vote) (txn : TxnNo) (us vs : List Use) (rows : List Row)
+    → rows_voted v txn vs (rows_locked txn us rows) ≡ rows_locked txn (us ++ uses_voted v vs) rows
 voted_locked Yes txn us vs rows = both_locked txn us vs rows
 voted_locked (Ended lease until now) txn us vs rows = ap (λ xs. rows_locked txn xs rows) (sym (append-nil us))
 voted_locked (Moved prefix to) txn us vs rows = ap (λ xs. rows_locked txn xs rows) (sym (append-nil us))
@@ -54,22 +57,27 @@ voted_locked (PathsOut lease) txn us vs rows = ap (λ xs. rows_locked txn xs row
 
 -- ## A lock changes no vote
 
-row_stays : (txn : TxnNo) (us : List Use) (by : Session) (u : Use) (r : Row) → is_lease u.no by u.field u.kind (row_locked txn us r) ≡ is_lease u.no by u.field u.kind r
+row_stays : (txn : TxnNo) (us : List Use) (by : Session) (u : Use) (r : Row)
+    → is_lease u.no by u.field u.kind (row_locked txn us r) ≡ is_lease u.no by u.field u.kind r
 row_stays txn us by u r = at (is_used us r && not (is_some r.lock))
   where
     at : (b : Bool) → is_lease u.no by u.field u.kind (cond b (locked txn r) r) ≡ is_lease u.no by u.field u.kind r
     at true = refl
     at false = refl
 
-has_kept : (txn : TxnNo) (us : List Use) (rows : List Row) (by : Session) (u : Use) → has_row (rows_locked txn us rows) by u ≡ has_row rows by u
+has_kept : (txn : TxnNo) (us : List Use) (rows : List Row) (by : Session) (u : Use)
+    → has_row (rows_locked txn us rows) by u ≡ has_row rows by u
 has_kept txn us [] by u = refl
 has_kept txn us (r ∷ rs) by u = ap₂ (λ a b. a || b) (row_stays txn us by u r) (has_kept txn us rs by u)
 
-gone_kept : (txn : TxnNo) (us : List Use) (rows : List Row) (by : Session) (uses : List Use) → first_gone (rows_locked txn us rows) by uses ≡ first_gone rows by uses
+gone_kept : (txn : TxnNo) (us : List Use) (rows : List Row) (by : Session) (uses : List Use)
+    → first_gone (rows_locked txn us rows) by uses ≡ first_gone rows by uses
 gone_kept txn us rows by uses = ap (λ test. find test uses) (fun_ext (λ u. ap not (has_kept txn us rows by u)))
 
-vote_kept : (begins : Bool) (txn : TxnNo) (us : List Use) (s : Server) (by : Session) (p : Part) → vote_here (keeping begins txn us s) by p ≡ vote_here s by p
-vote_kept begins txn us s by p = ap (λ o. cond (is_mine s p.file) (vote_by o None s.last) (moved_to (longest s.map p.file))) (gone_kept txn us s.rows by p.uses)
+vote_kept : (begins : Bool) (txn : TxnNo) (us : List Use) (s : Server) (by : Session) (p : Part)
+    → vote_here (keeping begins txn us s) by p ≡ vote_here s by p
+vote_kept begins txn us s by p = ap (λ o. cond (is_mine s p.file) (vote_by o None s.last) (moved_to (longest s.map p.file)))
+    (gone_kept txn us s.rows by p.uses)
 
 -- ## One part more
 
@@ -80,7 +88,8 @@ with_own v uses me g = record { votes = g.votes ++ Some v ∷ []; at = g.at ++ m
 pub own_gathered : (g : Gathered) (txn : TxnNo) (number : ℕ) (by : Session) (p : Part) (s : Server) → is_mine s p.file ≡ true
     → part_round txn number by p (gathered_by g txn s) ≡ gathered_by (with_own (vote_here s by p) p.uses s.me g) txn s
 own_gathered g txn number by p s h =
-    ap (λ b. cond b (own_part txn p (vote_here (keeping true txn g.uses s) by p) (gathered_by g txn s)) (asked_part txn number by p (server_of s.map p.file) (gathered_by g txn s))) h
+    ap (λ b. cond b (own_part txn p (vote_here (keeping true txn g.uses s) by p) (gathered_by g txn s))
+    (asked_part txn number by p (server_of s.map p.file) (gathered_by g txn s))) h
     ∙ ap (λ v. own_part txn p v (gathered_by g txn s)) (vote_kept true txn g.uses s by p)
     ∙ ap (λ rows. let x : Round = record {
       server = record s { txns = s.txns + 1; rows = rows };
@@ -90,7 +99,8 @@ own_gathered g txn number by p s h =
     } in x) (voted_locked (vote_here s by p) txn g.uses p.uses s.rows)
 
 -- the vote of a part that is here is counted
-pub own_pushed : (g new : Gathered) (txn : TxnNo) (number : ℕ) (by : Session) (p : Part) (s : Server) (v : Vote) (me : ℕ) → is_mine s p.file ≡ true → v ≡ vote_here s by p → me ≡ s.me
+pub own_pushed : (g new : Gathered) (txn : TxnNo) (number : ℕ) (by : Session) (p : Part) (s : Server) (v : Vote) (me : ℕ)
+    → is_mine s p.file ≡ true → v ≡ vote_here s by p → me ≡ s.me
     → new.votes ≡ g.votes ++ Some v ∷ [] → new.at ≡ g.at ++ me ∷ [] → new.uses ≡ g.uses ++ uses_voted v p.uses → new.send ≡ g.send
     → gathered_by new txn s ≡ part_round txn number by p (gathered_by g txn s)
 own_pushed g new txn number by p s v me h e k votes at uses send =
@@ -104,7 +114,8 @@ abbrev pub nothing_gathered : Gathered
 nothing_gathered = record { votes = []; at = []; uses = []; send = [] }
 
 pub first_gathered : (txn : TxnNo) (s : Server) → gathered_by nothing_gathered txn s ≡ first_round s
-first_gathered txn s = ap (λ rows. let x : Round = record { server = record s { txns = s.txns + 1; rows = rows }; votes = []; at = []; send = [] } in x) (none_locked txn s.rows)
+first_gathered txn s = ap (λ rows. let x : Round = record
+    { server = record s { txns = s.txns + 1; rows = rows }; votes = []; at = []; send = [] } in x) (none_locked txn s.rows)
 
 -- the vote of each
 abbrev pub own_votes : Server → Session → List Part → Votes
@@ -125,7 +136,8 @@ all_own by ps s g = record {
 
 pub all_gathered : (txn : TxnNo) (number : ℕ) (by : Session) (ps : List Part) (s : Server) (g : Gathered) → has_all s ps ≡ true
     → rounds txn number by ps (gathered_by g txn s) ≡ gathered_by (all_own by ps s g) txn s
-all_gathered txn number by [] s g h = λ i. gathered_by (record { votes = sym (append-nil g.votes) i; at = sym (append-nil g.at) i; uses = sym (append-nil g.uses) i; send = g.send }) txn s
+all_gathered txn number by [] s g h = λ i. gathered_by
+    (record { votes = sym (append-nil g.votes) i; at = sym (append-nil g.at) i; uses = sym (append-nil g.uses) i; send = g.send }) txn s
 all_gathered txn number by (p ∷ ps) s g h =
     let v : Vote = vote_here s by p in
     ap (rounds txn (number + 1) by ps) (own_gathered g txn number by p s (first (is_mine s p.file) (has_all s ps) h))

@@ -1,5 +1,6 @@
 -- What a leader does with votes and decisions.
-use Rattle.std.proofs.Common.{◌≡◌, ◌==◌, ◌&&◌, ◌+◌, ◌<◌, ◌≤◌, ℕ, Bool, true, false, not, List, [], ◌∷◌, ◌++◌, cond, length, map, refl, ap, ap₂, ◌∙◌, subst, arith}
+use Rattle.std.proofs.Common.{◌≡◌, ◌==◌, ◌&&◌, ◌+◌, ◌<◌, ◌≤◌, ℕ, Bool, true, false, not, List}
+use Rattle.std.proofs.Common.{[], ◌∷◌, ◌++◌, cond, length, map, refl, ap, ap₂, ◌∙◌, subst, arith}
 use Rattle.std.specs.Prelude.{Option, Some, None, is_some, slice_get}
 use Rattle.std.specs.List.{filter, flat_map}
 use Rattle.std.proofs.lemmas.Bool.Decides.{nat_tests}
@@ -53,40 +54,50 @@ done_unawaited m s = at (ending_of m.txn s.ending)
 
 -- ## What is awaited is done
 
-done_so : (m : Done) (s : Server) (x : Ending) (left : List (ℕ × ℕ)) → ending_of m.txn s.ending ≡ Some x → awaits_done m.number x.awaits ≡ true
+done_so : (m : Done) (s : Server) (x : Ending) (left : List (ℕ × ℕ)) → ending_of m.txn s.ending ≡ Some x
+    → awaits_done m.number x.awaits ≡ true
     → (without_done m.number x).awaits ≡ left → done_step m s ≡ done_with (without_done m.number x) left s
 done_so m s x left f a e =
     ap (λ o. done_of o m s) f
     ∙ ap (λ b. cond b (done_with (without_done m.number x) (without_done m.number x).awaits s) (strange s)) a
     ∙ ap (λ xs. done_with (without_done m.number x) xs s) e
 
-pub rename_commits : (l : Leading) (sent : List (Peer × Msg)) (s : Server) (effects : List (List Effect)) → decision l.leader None ≡ Commit Renamed effects
+pub rename_commits : (l : Leading) (sent : List (Peer × Msg)) (s : Server) (effects : List (List Effect))
+    → decision l.leader None ≡ Commit Renamed effects
     → is_some (slice_get (elsewhere s.me l) 0) ≡ true → (concludes l sent s).server.rows ≡ s.rows
 rename_commits l sent s effects d o = ap₂ (λ d b. cond (keeps_rows d && b) s.rows (rows_unlocked l.leader.txn s.rows)) d o
 
-pub rename_waits : (m : Done) (s : Server) (x : Ending) (y : ℕ × ℕ) (ys : List (ℕ × ℕ)) → ending_of m.txn s.ending ≡ Some x → awaits_done m.number x.awaits ≡ true
+pub rename_waits : (m : Done) (s : Server) (x : Ending) (y : ℕ × ℕ) (ys : List (ℕ × ℕ)) → ending_of m.txn s.ending ≡ Some x
+    → awaits_done m.number x.awaits ≡ true
     → (without_done m.number x).awaits ≡ y ∷ ys → ((done_step m s).server.rows ≡ s.rows) × ((done_step m s).out.send ≡ [])
-rename_waits m s x y ys f a e = (ap (λ (t : Stepped). t.server.rows) (done_so m s x (y ∷ ys) f a e), ap (λ (t : Stepped). t.out.send) (done_so m s x (y ∷ ys) f a e))
+rename_waits m s x y ys f a e = (
+  ap (λ (t : Stepped). t.server.rows) (done_so m s x (y ∷ ys) f a e),
+  ap (λ (t : Stepped). t.out.send)
+      (done_so m s x (y ∷ ys) f a e),
+)
 
 pub last_is_done : (m : Done) (s : Server) (x : Ending) → ending_of m.txn s.ending ≡ Some x → awaits_done m.number x.awaits ≡ true
     → (without_done m.number x).awaits ≡ [] → (r : Row) → In r (done_step m s).server.rows → is_lock_of m.txn r.lock ≡ false
 last_is_done m s x f a e r i =
     let its : x.txn ≡ m.txn = txn_is x.txn m.txn (found (λ (y : Ending). same_txn y.txn m.txn) s.ending x f).1 in
-    none_kept m.txn s.rows r (subst (In r) (ap (λ (t : Stepped). t.server.rows) (done_so m s x [] f a e) ∙ ap (λ txn. rows_unlocked txn s.rows) its) i)
+    none_kept m.txn s.rows r (subst (In r) (ap (λ (t : Stepped). t.server.rows) (done_so m s x [] f a e)
+    ∙ ap (λ txn. rows_unlocked txn s.rows) its) i)
 
 -- ## What the session is told
 
 pub told_at_once : (l : Leading) (sent : List (Peer × Msg)) (s : Server) → elsewhere s.me l ≡ []
     → (concludes l sent s).out.send ≡ sent ++ to_session l.leader.session (answer.Led (end_of_decision (decision l.leader None))) ∷ []
 told_at_once l sent s h =
-    ap (λ out. sent ++ (tells l.leader.txn (decision l.leader None) out ++ ends_now out l.leader.session (end_of_decision (decision l.leader None)))) h
+    ap (λ out. sent ++ (tells l.leader.txn (decision l.leader None) out ++ ends_now out l.leader.session
+    (end_of_decision (decision l.leader None)))) h
 
 pub told_later : (l : Leading) (sent : List (Peer × Msg)) (s : Server) → is_some (slice_get (elsewhere s.me l) 0) ≡ true
     → (concludes l sent s).out.send ≡ sent ++ tells l.leader.txn (decision l.leader None) (elsewhere s.me l)
 told_later l sent s = at (elsewhere s.me l)
   where
     at : (out : List (ℕ × ℕ)) → is_some (slice_get out 0) ≡ true
-        → sent ++ (tells l.leader.txn (decision l.leader None) out ++ ends_now out l.leader.session (end_of_decision (decision l.leader None)))
+        → sent ++ (tells l.leader.txn (decision l.leader None) out ++ ends_now out l.leader.session
+        (end_of_decision (decision l.leader None)))
         ≡ sent ++ tells l.leader.txn (decision l.leader None) out
     at [] h = absurd (cc h)
     at (x ∷ xs) h = ap (λ ms. sent ++ ms) (append-nil (tells l.leader.txn (decision l.leader None) (x ∷ xs)))
@@ -112,13 +123,16 @@ none_before me number first (v ∷ vs) (k ∷ ks) lt = by (said_yes v) (not (k =
         after a b l = grind (arith, nat_tests)
 
     by : (yes away : Bool) → of_number number (out_from me (first + 1) vs ks) ≡ []
-        → of_number number (filter (λ (x : ℕ × ℕ). not (x.1 == me)) (cond yes ((first, k) ∷ yes_from (first + 1) vs ks) (yes_from (first + 1) vs ks))) ≡ []
+        → of_number number (filter (λ (x : ℕ × ℕ). not (x.1 == me))
+        (cond yes ((first, k) ∷ yes_from (first + 1) vs ks) (yes_from (first + 1) vs ks))) ≡ []
     by false away rest = rest
     by true away rest =
         go (not (k == me)) ∙ rest
       where
-        go : (b : Bool) → of_number number (cond b ((first, k) ∷ out_from me (first + 1) vs ks) (out_from me (first + 1) vs ks)) ≡ of_number number (out_from me (first + 1) vs ks)
-        go true = ap (λ t. cond t ((first, k) ∷ of_number number (out_from me (first + 1) vs ks)) (of_number number (out_from me (first + 1) vs ks))) differs
+        go : (b : Bool) → of_number number (cond b ((first, k) ∷ out_from me (first + 1) vs ks) (out_from me (first + 1) vs ks))
+            ≡ of_number number (out_from me (first + 1) vs ks)
+        go true = ap (λ t. cond t ((first, k) ∷ of_number number (out_from me (first + 1) vs ks))
+            (of_number number (out_from me (first + 1) vs ks))) differs
         go false = refl
 
 at_most_one : (me number first : ℕ) (votes : Votes) (at : List ℕ) → length (of_number number (out_from me first votes at)) ≤ 1
@@ -127,19 +141,23 @@ at_most_one me number first (v ∷ vs) [] = omega arith
 at_most_one me number first (v ∷ vs) (k ∷ ks) = by (said_yes v) (at_most_one me number (first + 1) vs ks)
   where
     here : (b : Bool) → (first == number) ≡ b → length (of_number number (out_from me (first + 1) vs ks)) ≤ 1
-        → length (cond b ((first, k) ∷ of_number number (out_from me (first + 1) vs ks)) (of_number number (out_from me (first + 1) vs ks))) ≤ 1
-    here true e rest = let none : length (of_number number (out_from me (first + 1) vs ks)) ≡ 0 = ap length (none_before me number (first + 1) vs ks (below first number e)) in omega arith
+        → length (cond b ((first, k) ∷ of_number number (out_from me (first + 1) vs ks))
+        (of_number number (out_from me (first + 1) vs ks))) ≤ 1
+    here true e rest = let none : length (of_number number (out_from me (first + 1) vs ks))
+        ≡ 0 = ap length (none_before me number (first + 1) vs ks (below first number e)) in omega arith
       where
         below : (a b : ℕ) → (a == b) ≡ true → b < a + 1
         below a b e = grind (arith, nat_tests)
     here false e rest = rest
 
     by : (yes : Bool) → length (of_number number (out_from me (first + 1) vs ks)) ≤ 1
-        → length (of_number number (filter (λ (x : ℕ × ℕ). not (x.1 == me)) (cond yes ((first, k) ∷ yes_from (first + 1) vs ks) (yes_from (first + 1) vs ks)))) ≤ 1
+        → length (of_number number (filter (λ (x : ℕ × ℕ). not (x.1 == me))
+        (cond yes ((first, k) ∷ yes_from (first + 1) vs ks) (yes_from (first + 1) vs ks)))) ≤ 1
     by false rest = rest
     by true rest = go (not (k == me))
       where
-        go : (b : Bool) → length (of_number number (cond b ((first, k) ∷ out_from me (first + 1) vs ks) (out_from me (first + 1) vs ks))) ≤ 1
+        go : (b : Bool)
+            → length (of_number number (cond b ((first, k) ∷ out_from me (first + 1) vs ks) (out_from me (first + 1) vs ks))) ≤ 1
         go true = here (first == number) refl rest
         go false = rest
 

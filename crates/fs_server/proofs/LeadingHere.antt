@@ -1,5 +1,6 @@
 -- A transaction that begins and ends in one event: all its parts are here.
-use Rattle.std.proofs.Common.{◌≡◌, ◌==◌, ◌&&◌, ◌+◌, ℕ, Bool, true, false, not, List, [], ◌∷◌, ◌++◌, cond, length, map, refl, ap, ap₂, sym, ◌∙◌, inl, inr}
+use Rattle.std.proofs.Common.{◌≡◌, ◌==◌, ◌&&◌, ◌+◌, ℕ, Bool, true, false, not, List, []}
+use Rattle.std.proofs.Common.{◌∷◌, ◌++◌, cond, length, map, refl, ap, ap₂, sym, ◌∙◌, inl, inr}
 use mathlib.Core.Path.{fun_ext}
 use Rattle.std.specs.Prelude.{Option, Some, None, is_some}
 use Rattle.std.specs.List.{filter, find, flat_map}
@@ -62,7 +63,8 @@ row_back txn us r n = by (is_used us r) r.lock refl
     stays = ap (λ b. cond b (record r { lock = None }) r) (not_its txn r.lock n)
 
     by : (a : Bool) (o : Option TxnNo) → r.lock ≡ o → unlocked_row txn (cond (a && not (is_some o)) (locked txn r) r) ≡ r
-    by true None e = ap (λ b. cond b (record r { lock = None }) (locked txn r)) (txn_itself txn) ∙ ap (λ (o : Option TxnNo). let x : Row = record r { lock = o } in x) (sym e)
+    by true None e = ap (λ b. cond b (record r { lock = None }) (locked txn r)) (txn_itself txn)
+        ∙ ap (λ (o : Option TxnNo). let x : Row = record r { lock = o } in x) (sym e)
     by true (Some t) e = stays
     by false o e = stays
 
@@ -76,7 +78,8 @@ none_left_out : {X : Type 0} (test : X → Bool) (xs : List X) → find test xs 
 none_left_out test [] h = refl
 none_left_out test (x ∷ xs) h = by (test x) (none_left_out test xs) h
   where
-    by : (b : Bool) → (find test xs ≡ None → filter (λ x. not (test x)) xs ≡ xs) → cond b (Some x) (find test xs) ≡ None → cond (not b) (x ∷ filter (λ x. not (test x)) xs) (filter (λ x. not (test x)) xs) ≡ x ∷ xs
+    by : (b : Bool) → (find test xs ≡ None → filter (λ x. not (test x)) xs ≡ xs) → cond b (Some x) (find test xs) ≡ None
+        → cond (not b) (x ∷ filter (λ x. not (test x)) xs) (filter (λ x. not (test x)) xs) ≡ x ∷ xs
     by true rest h = absurd (cc h)
     by false rest h = ap (λ ys. x ∷ ys) (rest h)
 
@@ -86,22 +89,27 @@ all_full : (s : Server) (by : Session) (ps : List Part) → is_full (own_votes s
 all_full s by [] = refl
 all_full s by (p ∷ ps) = all_full s by ps
 
-none_elsewhere : (me first : ℕ) (votes : Votes) (ps : List Part) → filter (λ (x : ℕ × ℕ). not (x.1 == me)) (yes_from first votes (map (λ (p : Part). me) ps)) ≡ []
+none_elsewhere : (me first : ℕ) (votes : Votes) (ps : List Part)
+    → filter (λ (x : ℕ × ℕ). not (x.1 == me)) (yes_from first votes (map (λ (p : Part). me) ps)) ≡ []
 none_elsewhere me first [] ps = refl
 none_elsewhere me first (v ∷ vs) [] = refl
 none_elsewhere me first (v ∷ vs) (p ∷ ps) = by (said_yes v) (none_elsewhere me (first + 1) vs ps)
   where
     by : (b : Bool) → filter (λ (x : ℕ × ℕ). not (x.1 == me)) (yes_from (first + 1) vs (map (λ (p : Part). me) ps)) ≡ []
-        → filter (λ (x : ℕ × ℕ). not (x.1 == me)) (cond b ((first, me) ∷ yes_from (first + 1) vs (map (λ (p : Part). me) ps)) (yes_from (first + 1) vs (map (λ (p : Part). me) ps))) ≡ []
+        → filter (λ (x : ℕ × ℕ). not (x.1 == me)) (cond b ((first, me) ∷ yes_from (first + 1) vs (map (λ (p : Part). me) ps))
+        (yes_from (first + 1) vs (map (λ (p : Part). me) ps))) ≡ []
     by false rest = rest
     by true rest =
-        ap (λ b. cond (not b) ((first, me) ∷ filter (λ (x : ℕ × ℕ). not (x.1 == me)) (yes_from (first + 1) vs (map (λ (p : Part). me) ps))) (filter (λ (x : ℕ × ℕ). not (x.1 == me)) (yes_from (first + 1) vs (map (λ (p : Part). me) ps)))) (itself me)
+        ap (λ b. cond (not b) ((first, me) ∷ filter (λ (x : ℕ × ℕ). not (x.1 == me)) (yes_from (first + 1) vs (map (λ (p : Part). me) ps)))
+        (filter (λ (x : ℕ × ℕ). not (x.1 == me)) (yes_from (first + 1) vs (map (λ (p : Part). me) ps)))) (itself me)
         ∙ rest
 
-all_picked : (me : ℕ) (on : Part → List Effect) (ps : List Part) → picked (λ k. k == me) (map (λ (p : Part). me) ps) (map on ps) ≡ flat_map (λ (es : List Effect). es) (map on ps)
+all_picked : (me : ℕ) (on : Part → List Effect) (ps : List Part)
+    → picked (λ k. k == me) (map (λ (p : Part). me) ps) (map on ps) ≡ flat_map (λ (es : List Effect). es) (map on ps)
 all_picked me on [] = refl
 all_picked me on (p ∷ ps) =
-    ap (λ b. cond b (on p ++ picked (λ k. k == me) (map (λ (p : Part). me) ps) (map on ps)) (picked (λ k. k == me) (map (λ (p : Part). me) ps) (map on ps))) (itself me)
+    ap (λ b. cond b (on p ++ picked (λ k. k == me) (map (λ (p : Part). me) ps) (map on ps))
+    (picked (λ k. k == me) (map (λ (p : Part). me) ps) (map on ps))) (itself me)
     ∙ ap (λ es. on p ++ es) (all_picked me on ps)
 
 -- ## The transaction
@@ -133,18 +141,26 @@ module _ (by : Session) (m : Lead) (s : Server) where
       at : (d : Decision) → decided ≡ d → own_effects s.me its d ≡ all_effects d
       at (Abort e) q = abort_changes_none s.me its e
       at (Commit r effects) q =
-          let is : effects ≡ map (λ (p : Part). effects_on (led_effects m.op m.file r) p.file) (parts_in m) = commit_effects its.leader r effects q in
-          let as_many : length effects ≡ length its.leader.votes = ap length is ∙ length-map (parts_in m) (λ (p : Part). effects_on (led_effects m.op m.file r) p.file) ∙ sym (length-map (parts_in m) (λ (p : Part). Some (vote_here s by p))) in
+          let is : effects ≡ map (λ (p : Part). effects_on (led_effects m.op m.file r) p.file)
+          (parts_in m) = commit_effects its.leader r effects q in
+          let as_many : length effects ≡ length its.leader.votes = ap length is
+          ∙ length-map (parts_in m) (λ (p : Part). effects_on (led_effects m.op m.file r) p.file)
+          ∙ sym (length-map (parts_in m) (λ (p : Part). Some (vote_here s by p))) in
           told_picked (λ k. k == s.me) r effects its (commit_yes its.leader None r effects q) as_many_asked as_many
           ∙ ap (picked (λ k. k == s.me) its.at) is
           ∙ all_picked s.me (λ (p : Part). effects_on (led_effects m.op m.file r) p.file) (parts_in m)
           ∙ ap (flat_map (λ (es : List Effect). es)) (sym is)
 
-  gathered_here : has_all s (parts_in m) ≡ true → begins by m s ≡ begun_with by m (txn_of s) (gathered_by (all_own by (parts_in m) s nothing_gathered) (txn_of s) s)
-  gathered_here h = ap (begun_with by m (txn_of s)) (ap (rounds (txn_of s) 0 by (parts_in m)) (sym (first_gathered (txn_of s) s)) ∙ all_gathered (txn_of s) 0 by (parts_in m) s nothing_gathered h)
+  gathered_here : has_all s (parts_in m) ≡ true → begins by m s
+      ≡ begun_with by m (txn_of s) (gathered_by (all_own by (parts_in m) s nothing_gathered) (txn_of s) s)
+  gathered_here h = ap (begun_with by m (txn_of s))
+      (ap (rounds (txn_of s) 0 by (parts_in m)) (sym (first_gathered (txn_of s) s))
+      ∙ all_gathered (txn_of s) 0 by (parts_in m) s nothing_gathered h)
 
-  full_here : begun_with by m (txn_of s) (gathered_by (all_own by (parts_in m) s nothing_gathered) (txn_of s) s) ≡ concludes its [] (keeping true (txn_of s) used s)
-  full_here = ap (λ b. cond b (concludes its [] (keeping true (txn_of s) used s)) (waits (note.Prepares (txn_of s)) its [] (keeping true (txn_of s) used s))) (all_full s by (parts_in m))
+  full_here : begun_with by m (txn_of s) (gathered_by (all_own by (parts_in m) s nothing_gathered) (txn_of s) s)
+      ≡ concludes its [] (keeping true (txn_of s) used s)
+  full_here = ap (λ b. cond b (concludes its [] (keeping true (txn_of s) used s))
+      (waits (note.Prepares (txn_of s)) its [] (keeping true (txn_of s) used s))) (all_full s by (parts_in m))
 
   admitted_so : (d : Decision) → admitted_of d its.leader ≡ admitted_by d by m
   admitted_so (Commit r effects) = refl
@@ -157,9 +173,11 @@ module _ (by : Session) (m : Lead) (s : Server) where
         server = record s {
           txns = s.txns + 1;
           records = records_after_all s.records (effects_here i);
-          rows = (never_kept (keeps_rows decided) (rows_locked (txn_of s) used s.rows) (rows_unlocked (txn_of s) (rows_locked (txn_of s) used s.rows)) ∙ rows_back (txn_of s) used s.rows n.rows) i;
+          rows = (never_kept (keeps_rows decided) (rows_locked (txn_of s) used s.rows)
+              (rows_unlocked (txn_of s) (rows_locked (txn_of s) used s.rows)) ∙ rows_back (txn_of s) used s.rows n.rows) i;
           leading = none_left_out (λ (l : Leading). same_txn l.leader.txn (txn_of s)) s.leading n.leading i;
-          ending = (append-nil (without_ending (txn_of s) s.ending) ∙ none_left_out (λ (x : Ending). same_txn x.txn (txn_of s)) s.ending n.ending) i;
+          ending = (append-nil (without_ending (txn_of s) s.ending)
+              ∙ none_left_out (λ (x : Ending). same_txn x.txn (txn_of s)) s.ending n.ending) i;
         };
         out = record {
           note = end_note (txn_of s) (end_of_decision decided);

@@ -51,7 +51,7 @@ decided_first (e ∷ es) k = (inr (k e (inl refl)), λ d i. k d (inr i))
 front_taken : (m : RecordMap) (e : Effect) (es : List Effect) → is_undoable e ≡ true → records_decided (e ∷ es) m ≡ records_decided es (records_after m e)
 front_taken m e es u = ap
     (λ b. records_after_all (records_after_all m (cond b (e ∷ filter is_undoable es) (filter is_undoable es)))
-      (cond (not b) (e ∷ filter takes_away es) (filter takes_away es))) u
+    (cond (not b) (e ∷ filter takes_away es) (filter takes_away es))) u
 
 in_order : (m : RecordMap) (es : List Effect) → FirstOnly es → records_decided es m ≡ records_after_all m es
 in_order m [] k = refl
@@ -135,7 +135,7 @@ others_told l uses p h number lt = by (slice_get l.parts number) refl
     by (Some a) e =
         let home : Part = part_at l.mode l.op l.file uses (home_of l.op) in
         let other : same (home_of l.op) a.file ≡ false =
-            part_files l.op l.file uses l.mode 0 number home a (unequal 0 number lt) (ap (λ ps. slice_get ps 0) (sym h) ∙ home_part l uses h) (ap (λ ps. slice_get ps number) (sym h) ∙ e) in
+        part_files l.op l.file uses l.mode 0 number home a (unequal 0 number lt) (ap (λ ps. slice_get ps 0) (sym h) ∙ home_part l uses h) (ap (λ ps. slice_get ps number) (sym h) ∙ e) in
         others_are_decided l p number a e
         (part_files l.op l.file uses l.mode number 0 a home (turned_test number lt) (ap (λ ps. slice_get ps number) (sym h) ∙ e) (ap (λ ps. slice_get ps 0) (sym h) ∙ home_part l uses h))
       where

@@ -1,5 +1,6 @@
 -- A commit, split by the servers of its parts.
-use Rattle.std.proofs.Common.{◌≡◌, ◌==◌, ◌+◌, ℕ, zero, suc, Bool, true, false, not, List, [], ◌∷◌, ◌++◌, cond, length, map, refl, ap, ap₂, sym, ◌∙◌, subst, inl, inr, arith}
+use Rattle.std.proofs.Common.{◌≡◌, ◌==◌, ◌+◌, ℕ, zero, suc, Bool, true, false, not, List, [], ◌∷◌}
+use Rattle.std.proofs.Common.{◌++◌, cond, length, map, refl, ap, ap₂, sym, ◌∙◌, subst, inl, inr, arith}
 use Rattle.std.specs.Prelude.{Option, Some, None, slice_get, unwrap_or}
 use Rattle.std.specs.List.{filter, flat_map, list_any}
 use Rattle.std.proofs.lemmas.Bool.{eqb-true}
@@ -32,8 +33,10 @@ use Rattle.fs_server.specs.LeadingLaws.{CommitSplits, goes_from, has_effect}
 
 -- ## The effects of a commit
 
-pub commit_effects : (l : Leader) (r : Reply) (effects : List (List Effect)) → decision l None ≡ Commit r effects → effects ≡ map (λ (p : Part). effects_on (led_effects l.op l.file r) p.file) l.parts
-commit_effects l r effects = decision_is l (λ d. d ≡ Commit r effects → effects ≡ map (λ (p : Part). effects_on (led_effects l.op l.file r) p.file) l.parts) (λ e q. absurd (cc q)) its None
+pub commit_effects : (l : Leader) (r : Reply) (effects : List (List Effect)) → decision l None ≡ Commit r effects
+    → effects ≡ map (λ (p : Part). effects_on (led_effects l.op l.file r) p.file) l.parts
+commit_effects l r effects = decision_is l (λ d. d ≡ Commit r effects
+    → effects ≡ map (λ (p : Part). effects_on (led_effects l.op l.file r) p.file) l.parts) (λ e q. absurd (cc q)) its None
   where
     its : (x : Reply) → commit l x ≡ Commit r effects → effects ≡ map (λ (p : Part). effects_on (led_effects l.op l.file r) p.file) l.parts
     its x q =
@@ -52,15 +55,19 @@ picked test [] es = []
 picked test (k ∷ ks) [] = []
 picked test (k ∷ ks) (e ∷ es) = cond (test k) (e ++ picked test ks es) (picked test ks es)
 
-told_from : (test : ℕ → Bool) (told : ℕ → List Effect) (first : ℕ) (effects : List (List Effect)) (votes : Votes) (at : List ℕ) → ((i : ℕ) → told (first + i) ≡ unwrap_or (slice_get effects i) []) → AreYes votes
-    → length at ≡ length votes → length effects ≡ length votes → flat_map (λ (x : ℕ × ℕ). told x.0) (filter (λ (x : ℕ × ℕ). test x.1) (yes_from first votes at)) ≡ picked test at effects
+told_from : (test : ℕ → Bool) (told : ℕ → List Effect) (first : ℕ) (effects : List (List Effect)) (votes : Votes) (at : List ℕ)
+    → ((i : ℕ) → told (first + i) ≡ unwrap_or (slice_get effects i) []) → AreYes votes
+    → length at ≡ length votes → length effects ≡ length votes
+    → flat_map (λ (x : ℕ × ℕ). told x.0) (filter (λ (x : ℕ × ℕ). test x.1) (yes_from first votes at)) ≡ picked test at effects
 told_from test told first effects [] [] t y a b = refl
 told_from test told first effects [] (k ∷ ks) t y a b = absurd (omega arith)
 told_from test told first effects (v ∷ vs) [] t y a b = absurd (omega arith)
 told_from test told first [] (v ∷ vs) (k ∷ ks) t y a b = absurd (omega arith)
 told_from test told first (e ∷ es) (v ∷ vs) (k ∷ ks) t y a b =
-    ap (λ yes. flat_map (λ (x : ℕ × ℕ). told x.0) (filter (λ (x : ℕ × ℕ). test x.1) (cond yes ((first, k) ∷ yes_from (first + 1) vs ks) (yes_from (first + 1) vs ks)))) (ap said_yes (y v (inl refl)))
-    ∙ by (test k) (told_from test told (first + 1) es vs ks (λ i. ap told (more first i) ∙ t (suc i)) (λ x i. y x (inr i)) (omega arith) (omega arith))
+    ap (λ yes. flat_map (λ (x : ℕ × ℕ). told x.0) (filter (λ (x : ℕ × ℕ). test x.1)
+    (cond yes ((first, k) ∷ yes_from (first + 1) vs ks) (yes_from (first + 1) vs ks)))) (ap said_yes (y v (inl refl)))
+    ∙ by (test k) (told_from test told (first + 1) es vs ks (λ i. ap told (more first i) ∙ t (suc i)) (λ x i. y x (inr i)) (omega arith)
+    (omega arith))
   where
     more : (n i : ℕ) → n + 1 + i ≡ n + suc i
     more n i = omega arith
@@ -69,57 +76,70 @@ told_from test told first (e ∷ es) (v ∷ vs) (k ∷ ks) t y a b =
     none n = omega arith
 
     by : (b : Bool) → flat_map (λ (x : ℕ × ℕ). told x.0) (filter (λ (x : ℕ × ℕ). test x.1) (yes_from (first + 1) vs ks)) ≡ picked test ks es
-        → flat_map (λ (x : ℕ × ℕ). told x.0) (cond b ((first, k) ∷ filter (λ (x : ℕ × ℕ). test x.1) (yes_from (first + 1) vs ks)) (filter (λ (x : ℕ × ℕ). test x.1) (yes_from (first + 1) vs ks))) ≡ cond b (e ++ picked test ks es) (picked test ks es)
+        → flat_map (λ (x : ℕ × ℕ). told x.0) (cond b ((first, k) ∷ filter (λ (x : ℕ × ℕ). test x.1) (yes_from (first + 1) vs ks))
+        (filter (λ (x : ℕ × ℕ). test x.1) (yes_from (first + 1) vs ks))) ≡ cond b (e ++ picked test ks es) (picked test ks es)
     by true r = ap₂ (λ xs ys. xs ++ ys) (ap told (none first) ∙ t 0) r
     by false r = r
 
 -- what the parts that said Yes at these servers are told
-pub told_picked : (test : ℕ → Bool) (r : Reply) (effects : List (List Effect)) (l : Leading) → AreYes l.leader.votes → length l.at ≡ length l.leader.votes → length effects ≡ length l.leader.votes
-    → flat_map (λ (x : ℕ × ℕ). told_effects (Commit r effects) x.0) (filter (λ (x : ℕ × ℕ). test x.1) (yes_from 0 l.leader.votes l.at)) ≡ picked test l.at effects
-told_picked test r effects l = told_from test (told_effects (Commit r effects)) 0 effects l.leader.votes l.at (λ i. ap (told_effects (Commit r effects)) (at i))
+pub told_picked : (test : ℕ → Bool) (r : Reply) (effects : List (List Effect)) (l : Leading) → AreYes l.leader.votes
+    → length l.at ≡ length l.leader.votes → length effects ≡ length l.leader.votes
+    → flat_map (λ (x : ℕ × ℕ). told_effects (Commit r effects) x.0) (filter (λ (x : ℕ × ℕ). test x.1) (yes_from 0 l.leader.votes l.at))
+    ≡ picked test l.at effects
+told_picked test r effects l = told_from test (told_effects (Commit r effects)) 0 effects l.leader.votes l.at
+    (λ i. ap (told_effects (Commit r effects)) (at i))
   where
     at : (i : ℕ) → 0 + i ≡ i
     at i = omega arith
 
 -- ## Those of some files
 
-part_goes : (goes : Effect → Bool) (b : Bool) (es : List Effect) (file : List ℕ) → ((e : Effect) → same (changed_file e) file ≡ true → goes e ≡ b) → filter goes (effects_on es file) ≡ cond b (effects_on es file) []
+part_goes : (goes : Effect → Bool) (b : Bool) (es : List Effect) (file : List ℕ)
+    → ((e : Effect) → same (changed_file e) file ≡ true → goes e ≡ b) → filter goes (effects_on es file) ≡ cond b (effects_on es file) []
 part_goes goes true [] file h = refl
 part_goes goes false [] file h = refl
 part_goes goes b (x ∷ xs) file h = at (same (changed_file x) file) refl (part_goes goes b xs file h)
   where
-    on : (b : Bool) → filter goes (effects_on xs file) ≡ cond b (effects_on xs file) [] → cond b (x ∷ filter goes (effects_on xs file)) (filter goes (effects_on xs file)) ≡ cond b (x ∷ effects_on xs file) []
+    on : (b : Bool) → filter goes (effects_on xs file) ≡ cond b (effects_on xs file) []
+        → cond b (x ∷ filter goes (effects_on xs file)) (filter goes (effects_on xs file)) ≡ cond b (x ∷ effects_on xs file) []
     on true r = ap (λ es. x ∷ es) r
     on false r = r
 
     at : (t : Bool) → same (changed_file x) file ≡ t → filter goes (effects_on xs file) ≡ cond b (effects_on xs file) []
-        → filter goes (cond t (x ∷ effects_on xs file) (effects_on xs file)) ≡ cond b (cond t (x ∷ effects_on xs file) (effects_on xs file)) []
+        → filter goes (cond t (x ∷ effects_on xs file) (effects_on xs file))
+        ≡ cond b (cond t (x ∷ effects_on xs file) (effects_on xs file)) []
     at false e rest = rest
     at true e rest = ap (λ g. cond g (x ∷ filter goes (effects_on xs file)) (filter goes (effects_on xs file))) (h x e) ∙ on b rest
 
 -- an effect on a part's file passes where the part's server does
 abbrev PassTogether : (ℕ → Bool) → (Effect → Bool) → List Part → List ℕ → Type 0
-PassTogether test goes parts at = (k : ℕ) (p : Part) (a : ℕ) → slice_get parts k ≡ Some p → slice_get at k ≡ Some a → (e : Effect) → same (changed_file e) p.file ≡ true → goes e ≡ test a
+PassTogether test goes parts at = (k : ℕ) (p : Part) (a : ℕ) → slice_get parts k ≡ Some p → slice_get at k ≡ Some a → (e : Effect)
+    → same (changed_file e) p.file ≡ true → goes e ≡ test a
 
-picked_pass : (test : ℕ → Bool) (goes : Effect → Bool) (es : List Effect) (parts : List Part) (at : List ℕ) → PassTogether test goes parts at → length at ≡ length parts
+picked_pass : (test : ℕ → Bool) (goes : Effect → Bool) (es : List Effect) (parts : List Part) (at : List ℕ)
+    → PassTogether test goes parts at → length at ≡ length parts
     → picked test at (map (λ (p : Part). effects_on es p.file) parts) ≡ filter goes (flat_map (λ (p : Part). effects_on es p.file) parts)
 picked_pass test goes es [] [] h n = refl
 picked_pass test goes es [] (a ∷ more) h n = absurd (omega arith)
 picked_pass test goes es (p ∷ ps) [] h n = absurd (omega arith)
 picked_pass test goes es (p ∷ ps) (a ∷ more) h n =
     by (test a) (picked_pass test goes es ps more (λ k q b f g. h (suc k) q b f g) (omega arith))
-    ∙ ap (λ xs. xs ++ filter goes (flat_map (λ (p : Part). effects_on es p.file) ps)) (sym (part_goes goes (test a) es p.file (h 0 p a refl refl)))
+    ∙ ap (λ xs. xs ++ filter goes (flat_map (λ (p : Part). effects_on es p.file) ps))
+    (sym (part_goes goes (test a) es p.file (h 0 p a refl refl)))
     ∙ sym (filter-append goes (effects_on es p.file) (flat_map (λ (p : Part). effects_on es p.file) ps))
   where
-    by : (b : Bool) → picked test more (map (λ (p : Part). effects_on es p.file) ps) ≡ filter goes (flat_map (λ (p : Part). effects_on es p.file) ps)
-        → cond b (effects_on es p.file ++ picked test more (map (λ (p : Part). effects_on es p.file) ps)) (picked test more (map (λ (p : Part). effects_on es p.file) ps))
+    by : (b : Bool) → picked test more (map (λ (p : Part). effects_on es p.file) ps)
+        ≡ filter goes (flat_map (λ (p : Part). effects_on es p.file) ps)
+        → cond b (effects_on es p.file ++ picked test more (map (λ (p : Part). effects_on es p.file) ps))
+        (picked test more (map (λ (p : Part). effects_on es p.file) ps))
         ≡ cond b (effects_on es p.file) [] ++ filter goes (flat_map (λ (p : Part). effects_on es p.file) ps)
     by true r = ap (λ xs. effects_on es p.file ++ xs) r
     by false r = r
 
 -- ## Parts that said Yes, and where they are
 
-in_yes : (n i a : ℕ) (votes : Votes) (at : List ℕ) → AreYes votes → length at ≡ length votes → slice_get at i ≡ Some a → In (n + i, a) (yes_from n votes at)
+in_yes : (n i a : ℕ) (votes : Votes) (at : List ℕ) → AreYes votes → length at ≡ length votes → slice_get at i ≡ Some a
+    → In (n + i, a) (yes_from n votes at)
 in_yes n i a [] [] y e h = absurd (cc h)
 in_yes n i a [] (k ∷ ks) y e h = absurd (omega arith)
 in_yes n i a (v ∷ vs) [] y e h = absurd (cc h)
@@ -136,7 +156,8 @@ in_yes n (suc i) a (v ∷ vs) (k ∷ ks) y e h =
     more : (n i : ℕ) → n + 1 + i ≡ n + suc i
     more n i = omega arith
 
-out_yes : (n : ℕ) (x : ℕ × ℕ) (votes : Votes) (at : List ℕ) → In x (yes_from n votes at) → (i : ℕ) × ((x.0 ≡ n + i) × (slice_get at i ≡ Some x.1))
+out_yes : (n : ℕ) (x : ℕ × ℕ) (votes : Votes) (at : List ℕ) → In x (yes_from n votes at)
+    → (i : ℕ) × ((x.0 ≡ n + i) × (slice_get at i ≡ Some x.1))
 out_yes n x [] at j = absurd j
 out_yes n x (v ∷ vs) [] j = absurd j
 out_yes n x (v ∷ vs) (k ∷ ks) j = by (out_yes (n + 1) x vs ks) (said_yes v) j
@@ -147,7 +168,8 @@ out_yes n x (v ∷ vs) (k ∷ ks) j = by (out_yes (n + 1) x vs ks) (said_yes v) 
     more : (n i : ℕ) → n + 1 + i ≡ n + suc i
     more n i = omega arith
 
-    by : (In x (yes_from (n + 1) vs ks) → (i : ℕ) × ((x.0 ≡ n + 1 + i) × (slice_get ks i ≡ Some x.1))) → (b : Bool) → In x (cond b ((n, k) ∷ yes_from (n + 1) vs ks) (yes_from (n + 1) vs ks))
+    by : (In x (yes_from (n + 1) vs ks) → (i : ℕ) × ((x.0 ≡ n + 1 + i) × (slice_get ks i ≡ Some x.1))) → (b : Bool)
+        → In x (cond b ((n, k) ∷ yes_from (n + 1) vs ks) (yes_from (n + 1) vs ks))
         → (i : ℕ) × ((x.0 ≡ n + i) × (slice_get (k ∷ ks) i ≡ Some x.1))
     by rest true (inl q) = (0, (ap (λ (y : ℕ × ℕ). y.0) q ∙ first n, ap (λ (y : ℕ × ℕ). Some y.1) (sym q)))
     by rest true (inr j) = let q = rest j in (suc q.0, (q.1.0 ∙ more n q.0, q.1.1))
@@ -159,7 +181,8 @@ passes : {X : Type 0} (test : X → Bool) (x : X) (xs : List X) → In x (filter
 passes test x [] i = absurd i
 passes test x (y ∷ ys) i = by (test y) refl (passes test x ys) i
   where
-    by : (b : Bool) → test y ≡ b → (In x (filter test ys) → test x ≡ true) → In x (cond b (y ∷ filter test ys) (filter test ys)) → test x ≡ true
+    by : (b : Bool) → test y ≡ b → (In x (filter test ys) → test x ≡ true) → In x (cond b (y ∷ filter test ys) (filter test ys))
+        → test x ≡ true
     by true e rest (inl q) = ap test q ∙ e
     by true e rest (inr j) = rest j
     by false e rest j = rest j
@@ -167,30 +190,37 @@ passes test x (y ∷ ys) i = by (test y) refl (passes test x ys) i
 -- an effect on a part's file goes to others where the part is elsewhere
 module _ (me : ℕ) (l : Leading) (uses : List Use) (w : IsWholeLeader l uses) (y : AreYes l.leader.votes) where
   goes_so : PassTogether (λ k. not (k == me)) (goes_from me l) l.leader.parts l.at
-  goes_so k p a f g e s = by (not (a == me)) refl (list_any (λ (x : ℕ × ℕ). has_effect e (slice_get l.leader.parts x.0)) (elsewhere me l)) refl
+  goes_so k p a f g e s =
+      by (not (a == me)) refl (list_any (λ (x : ℕ × ℕ). has_effect e (slice_get l.leader.parts x.0)) (elsewhere me l)) refl
     where
       start : (k : ℕ) → 0 + k ≡ k
       start k = omega arith
 
       there : In (k, a) (yes_from 0 l.leader.votes l.at)
-      there = subst (λ (m : ℕ). In (m, a) (yes_from 0 l.leader.votes l.at)) (start k) (in_yes 0 k a l.leader.votes l.at y (w.asked ∙ sym w.votes) g)
+      there = subst (λ (m : ℕ). In (m, a) (yes_from 0 l.leader.votes l.at)) (start k)
+          (in_yes 0 k a l.leader.votes l.at y (w.asked ∙ sym w.votes) g)
 
-      by : (b : Bool) → not (a == me) ≡ b → (t : Bool) → list_any (λ (x : ℕ × ℕ). has_effect e (slice_get l.leader.parts x.0)) (elsewhere me l) ≡ t → t ≡ b
+      by : (b : Bool) → not (a == me) ≡ b → (t : Bool)
+          → list_any (λ (x : ℕ × ℕ). has_effect e (slice_get l.leader.parts x.0)) (elsewhere me l) ≡ t → t ≡ b
       by true n true t = refl
       by false n false t = refl
       by true n false t =
-          let none : has_effect e (slice_get l.leader.parts k) ≡ false = none_any (λ (x : ℕ × ℕ). has_effect e (slice_get l.leader.parts x.0)) (elsewhere me l) t (k, a)
-            (In_filtered (λ (x : ℕ × ℕ). not (x.1 == me)) (yes_from 0 l.leader.votes l.at) (k, a) there n) in
+          let none : has_effect e (slice_get l.leader.parts k)
+          ≡ false = none_any (λ (x : ℕ × ℕ). has_effect e (slice_get l.leader.parts x.0)) (elsewhere me l) t (k, a)
+          (In_filtered (λ (x : ℕ × ℕ). not (x.1 == me)) (yes_from 0 l.leader.votes l.at) (k, a) there n) in
           let wrong : true ≡ false = sym s ∙ ap (has_effect e) (sym f) ∙ none in
           absurd (cc)
       by false n true t =
           let q = any_In (λ (x : ℕ × ℕ). has_effect e (slice_get l.leader.parts x.0)) (elsewhere me l) t in
-          let o = out_yes 0 q.0 l.leader.votes l.at (In-filter (λ (x : ℕ × ℕ). not (x.1 == me)) q.0 (yes_from 0 l.leader.votes l.at) q.1.0) in
+          let o = out_yes 0 q.0 l.leader.votes l.at
+          (In-filter (λ (x : ℕ × ℕ). not (x.1 == me)) q.0 (yes_from 0 l.leader.votes l.at) q.1.0) in
           let away : not (q.0.1 == me) ≡ true = passes (λ (x : ℕ × ℕ). not (x.1 == me)) q.0 (yes_from 0 l.leader.votes l.at) q.1.0 in
           let number : q.0.0 ≡ o.0 = o.1.0 ∙ start o.0 in
-          absurd (other o.0 q.0.1 (slice_get l.leader.parts o.0) refl (ap (λ m. has_effect e (slice_get l.leader.parts m)) (sym number) ∙ q.1.1) o.1.1 away (k == o.0) refl)
+          absurd (other o.0 q.0.1 (slice_get l.leader.parts o.0) refl
+          (ap (λ m. has_effect e (slice_get l.leader.parts m)) (sym number) ∙ q.1.1) o.1.1 away (k == o.0) refl)
         where
-          other : (j b : ℕ) (o : Option Part) → slice_get l.leader.parts j ≡ o → has_effect e (slice_get l.leader.parts j) ≡ true → slice_get l.at j ≡ Some b → not (b == me) ≡ true
+          other : (j b : ℕ) (o : Option Part) → slice_get l.leader.parts j ≡ o → has_effect e (slice_get l.leader.parts j) ≡ true
+              → slice_get l.at j ≡ Some b → not (b == me) ≡ true
               → (c : Bool) → (k == j) ≡ c → ⊥
           other j b None r h i away c m = let wrong : false ≡ true = ap (has_effect e) (sym r) ∙ h in absurd (cc)
           other j b (Some z) r h i away true m =
@@ -201,7 +231,8 @@ module _ (me : ℕ) (l : Leading) (uses : List Use) (w : IsWholeLeader l uses) (
               absurd (cc)
           other j b (Some z) r h i away false m =
               let its : same (changed_file e) z.file ≡ true = ap (has_effect e) (sym r) ∙ h in
-              let apart : same p.file z.file ≡ false = part_files l.leader.op l.leader.file uses l.leader.mode k j p z m (ap (λ ps. slice_get ps k) (sym w.parts) ∙ f) (ap (λ ps. slice_get ps j) (sym w.parts) ∙ r) in
+              let apart : same p.file z.file ≡ false = part_files l.leader.op l.leader.file uses l.leader.mode k j p z m
+              (ap (λ ps. slice_get ps k) (sym w.parts) ∙ f) (ap (λ ps. slice_get ps j) (sym w.parts) ∙ r) in
               let wrong : true ≡ false = sym its ∙ ap (λ x. same x z.file) (same_is (changed_file e) p.file s) ∙ apart in
               absurd (cc)
 
@@ -216,18 +247,19 @@ commit_splits me l uses r effects w h s d =
     let es : List Effect = led_effects l.leader.op l.leader.file r in
     let y : AreYes l.leader.votes = commit_yes l.leader None r effects d in
     let is : effects ≡ map (λ (p : Part). effects_on es p.file) l.leader.parts = commit_effects l.leader r effects d in
-    let as_many : length effects ≡ length l.leader.votes = ap length is ∙ length-map l.leader.parts (λ (p : Part). effects_on es p.file) ∙ sym w.votes in
+    let as_many : length effects ≡ length l.leader.votes = ap length is ∙ length-map l.leader.parts (λ (p : Part). effects_on es p.file)
+    ∙ sym w.votes in
     let shared : flat_map (λ (p : Part). effects_on es p.file) l.leader.parts ≡ es =
-        ap (flat_map (λ (p : Part). effects_on es p.file)) w.parts ∙ parts_share l.leader.op l.leader.file uses l.leader.mode r h s in
+    ap (flat_map (λ (p : Part). effects_on es p.file)) w.parts ∙ parts_share l.leader.op l.leader.file uses l.leader.mode r h s in
     let own : own_effects me l (Commit r effects) ≡ filter (λ e. not (goes_from me l e)) es =
-        told_picked (λ k. k == me) r effects l y (w.asked ∙ sym w.votes) as_many
-        ∙ ap (picked (λ k. k == me) l.at) is
-        ∙ picked_pass (λ k. k == me) (λ e. not (goes_from me l e)) es l.leader.parts l.at (λ k p a f g e t. ap not (goes_so me l uses w y k p a f g e t) ∙ twice (a == me)) w.asked
-        ∙ ap (filter (λ e. not (goes_from me l e))) shared in
-    (
+    told_picked (λ k. k == me) r effects l y (w.asked ∙ sym w.votes) as_many
+    ∙ ap (picked (λ k. k == me) l.at) is
+    ∙ picked_pass (λ k. k == me) (λ e. not (goes_from me l e)) es l.leader.parts l.at
+    (λ k p a f g e t. ap not (goes_so me l uses w y k p a f g e t) ∙ twice (a == me)) w.asked
+    ∙ ap (filter (λ e. not (goes_from me l e))) shared in (
       λ m. ap (records_after_all m) own,
       told_picked (λ k. not (k == me)) r effects l y (w.asked ∙ sym w.votes) as_many
-      ∙ ap (picked (λ k. not (k == me)) l.at) is
-      ∙ picked_pass (λ k. not (k == me)) (goes_from me l) es l.leader.parts l.at (goes_so me l uses w y) w.asked
-      ∙ ap (filter (goes_from me l)) shared,
+          ∙ ap (picked (λ k. not (k == me)) l.at) is
+          ∙ picked_pass (λ k. not (k == me)) (goes_from me l) es l.leader.parts l.at (goes_so me l uses w y) w.asked
+          ∙ ap (filter (goes_from me l)) shared,
     )

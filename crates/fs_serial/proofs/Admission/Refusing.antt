@@ -55,7 +55,7 @@ module _ (skew greatest : ℕ) (s : Sight) (replied : Session → List Item) (en
           among = q.0;
           gone = use_gone skew greatest s by (clients by) e u f (subst (λ es. In e es) (sym log) (inl refl)) q.0 q.1;
         };
-        led = each_led skew greatest greatest s s by (clients by) d (clients by).led (λ l is h. record { leads = h.leads; number = h.number; empty = h.empty; held = h.held; backed = h.backed; parts = h.parts; right = h.right }) f.led;
+        led = each_led skew greatest greatest s s by (clients by) d (clients by).led (λ l is h. record { leads = h.leads; number = h.number; empty = h.empty; held = h.held; backed = h.backed; parts = h.parts; lives = h.lives; right = h.right }) f.led;
       }
 
   still : (x : Session) → NoneAnew (clients x) (with_client by d clients x)

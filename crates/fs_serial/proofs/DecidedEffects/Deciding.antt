@@ -77,7 +77,7 @@ deciding_in servers fs d i =
 
 -- ## Its word
 
-not_awaited : (o : Option ℕ) (v : Option (Option Vote)) (at : ℕ) → stage_by o v ≡ Awaited at → ⊥
+pub not_awaited : (o : Option ℕ) (v : Option (Option Vote)) (at : ℕ) → stage_by o v ≡ Awaited at → ⊥
 not_awaited None v at e = absurd (cc)
 not_awaited (Some k) None at e = absurd (cc)
 not_awaited (Some k) (Some None) at e = absurd (cc)
@@ -120,9 +120,9 @@ module _ (c : Cluster) (led : LedHolds c) (d : Decided) (f : InFlight) (there : 
   its_ending =
       elim (stands_in c.servers key (λ e. let wrong : Awaited w.at ≡ Unknown = sym w.stage ∙ e in absurd (cc))) as
       (λ _. IsEndedAt c.servers key) [
-    | inl q ↦ absurd (not_led q)
-    | inr q ↦ q
-  ]
+        | inl q ↦ absurd (not_led q)
+        | inr q ↦ q
+      ]
 
   pub its_session : (led.parts key).session ≡ d.by
   its_session =

@@ -25,7 +25,7 @@ use Rattle.fs_client.specs.Led.{is_led}
 use Rattle.fs_record.specs.Records.{RecordMap, nodes_of}
 use Rattle.fs_txn.specs.Parts.{source_of}
 use Rattle.fs_view.specs.LedLaws.{IsLed}
-use Rattle.fs_serial.proofs.Lists.Facts.{same_symm}
+use Rattle.fs_serial.proofs.Lists.Journals.{same_symm}
 use Rattle.fs_serial.proofs.LedOperations.Cycles.{past}
 
 -- the file is neither the directory of the operation's home nor the one that it leaves
@@ -48,8 +48,8 @@ off_directory m dir name file sound named = go (same file dir) refl
     go true t =
         let place : parent_of (get m file) ≡ Some (dir, name) = (sound.tree.agreeing dir name file).0 named in
         let above : is_among file (ancestors_within (suc (len m)) m file) ≡ true =
-            ap (λ o. is_among file (option_map_or (λ d. d ∷ ancestors_within (len m) m d) o [])) (in_place (get m file) dir name place)
-                ∙ itself_above (same_is file dir t) in
+        ap (λ o. is_among file (option_map_or (λ d. d ∷ ancestors_within (len m) m d) o [])) (in_place (get m file) dir name place)
+        ∙ itself_above (same_is file dir t) in
         let listed : is_among file (ancestors m file) ≡ true = all_listed m file file (suc (len m)) sound above in
         let wrong : true ≡ false = sym listed ∙ own_ancestor m file sound in absurd (cc)
 
@@ -64,7 +64,7 @@ module _ (m : NodeMap) (sdir sname ddir dname file : List ℕ) (other : (same sd
   child_off : (d : Node) → (rename_child m sdir sname d ddir dname (Some file)).reply ≡ reply.Renamed → is_on_chain m file ddir ≡ false
   child_off d h =
       let p : (onward d).reply ≡ reply.Renamed =
-          subst (λ b. (cond b (reply_alone m reply.Renamed) (onward d)).reply ≡ reply.Renamed) other h in
+      subst (λ b. (cond b (reply_alone m reply.Renamed) (onward d)).reply ≡ reply.Renamed) other h in
       let q = past m (is_some (child_at d.children dname)) reply.Exists reply.Renamed _ (λ e. absurd (cc)) p in
       let r = past m (denies_delete (get m file)) reply.Sharing reply.Renamed _ (λ e. absurd (cc)) q.1 in
       (past m (is_on_chain m file ddir) reply.Cycle reply.Renamed _ (λ e. absurd (cc)) r.1).0

@@ -93,8 +93,8 @@ module _ (skew greatest : ℕ) (c : Cluster) (h : ClusterStands skew greatest c)
         let few : length word.effects ≤ 1 = h.led.few _ word.at word.effects (told c h.led d f there p) in
         let same : length p.message.effects ≡ length word.effects = ap length (its_effects c h.led d f there p) in
         let all : length (decided_by c.servers f.message) ≡ length p.message.effects =
-            ap length (told_by c.servers f d p)
-            ∙ length-map p.message.effects (λ (e : Effect). let z : Decided = record { by = p.ending.session; effect = e } in z) in
+        ap length (told_by c.servers f d p)
+        ∙ length-map p.message.effects (λ (e : Effect). let z : Decided = record { by = p.ending.session; effect = e } in z) in
         alone_in d (decided_by c.servers f.message) (among_told c.servers f d p) (omega (arith, few, same, all))
 
     module _ (front back : List InFlight) (whole : c.in_flight ≡ front ++ f ∷ back) where
@@ -146,10 +146,10 @@ module _ (skew greatest : ℕ) (c : Cluster) (h : ClusterStands skew greatest c)
         place_is =
             ap parent_of (node_there held file)
             ∙ ap (λ m. parent_of (node_of (get m file)))
-                (held_is ∙ ap (λ e. records_after_all (records_after earlier e) (effects_in behind)) is)
+            (held_is ∙ ap (λ e. records_after_all (records_after earlier e) (effects_in behind)) is)
             ∙ place_all (records_after earlier change) file dir name (effects_in behind) (λ e i.
-              let q = In-map effect_of e behind i in
-              subst (λ x. IsApart x e) is (subst (λ x. IsApart d.effect x) (sym q.1.1) (apart q.0 q.1.0)))
+            let q = In-map effect_of e behind i in
+            subst (λ x. IsApart x e) is (subst (λ x. IsApart d.effect x) (sym q.1.1) (apart q.0 q.1.0)))
             ∙ ap parent_of (node_changed earlier change)
 
         placed : parent_of (get (nodes_of held) file) ≡ Some (dir, name)

@@ -66,17 +66,17 @@ two_words key front back f g x y fx gy own its i =
     let a : List Told = told_of key (telling_of front) in
     let b : List Told = told_of key (telling_of back) in
     let here : told_of key (telling_of (f ∷ back)) ≡ x ∷ b =
-        ap (λ o. told_of key (cons_option o (telling_of back))) fx ∙ ap (λ t. cond t (x ∷ b) b) own in
+    ap (λ o. told_of key (cons_option o (telling_of back))) fx ∙ ap (λ t. cond t (x ∷ b) b) own in
     let whole : told_of key (telling_of (front ++ f ∷ back)) ≡ a ++ (x ∷ b) =
-        ap (told_of key) (telling_append front (f ∷ back)) ∙ filter-append (is_of key) (telling_of front) (telling_of (f ∷ back))
-            ∙ ap (λ ys. a ++ ys) here in
+    ap (told_of key) (telling_append front (f ∷ back)) ∙ filter-append (is_of key) (telling_of front) (telling_of (f ∷ back))
+    ∙ ap (λ ys. a ++ ys) here in
     let all : length (told_of key (telling_of (front ++ f ∷ back))) ≡ length a + length (x ∷ b) =
-        ap length whole ∙ length-append a (x ∷ b) in
+    ap length whole ∙ length-append a (x ∷ b) in
     In-both g front back (2 ≤ length (told_of key (telling_of (front ++ f ∷ back))))
-        (λ j. let n : 1 ≤ length a = some_in y a (kept_in (is_of key) y (telling_of front) (In-filter_map told_in g y front j gy) its) in
-          omega (arith, all, n))
-        (λ j. let n : 1 ≤ length b = some_in y b (kept_in (is_of key) y (telling_of back) (In-filter_map told_in g y back j gy) its) in
-          omega (arith, all, n)) i
+    (λ j. let n : 1 ≤ length a = some_in y a (kept_in (is_of key) y (telling_of front) (In-filter_map told_in g y front j gy) its) in
+    omega (arith, all, n))
+    (λ j. let n : 1 ≤ length b = some_in y b (kept_in (is_of key) y (telling_of back) (In-filter_map told_in g y back j gy) its) in
+    omega (arith, all, n)) i
 
 -- ## One question or answer
 
@@ -110,16 +110,16 @@ module _ (skew greatest : ℕ) (c : Cluster) (h : ClusterStands skew greatest c)
       let x = led.ending s i a k in
       let y = led.ending t j b l in
       let txn : a.txn ≡ b.txn = one_of_session s i b.session a.txn b.txn
-          (ends_its b.session c.servers s i a k e) (ends_its b.session c.servers t j b l refl) in
+      (ends_its b.session c.servers s i a k e) (ends_its b.session c.servers t j b l refl) in
       let p = In_at c.servers s i in
       let q = In_at c.servers t j in
       let place : p.place ≡ q.place =
-          sym (h.places.numbered p.place s p.is) ∙ sym x.own ∙ ap (λ (z : TxnNo). z.server) txn ∙ y.own
-          ∙ h.places.numbered q.place t q.is in
+      sym (h.places.numbered p.place s p.is) ∙ sym x.own ∙ ap (λ (z : TxnNo). z.server) txn ∙ y.own
+      ∙ h.places.numbered q.place t q.is in
       let got : Some s ≡ Some t = sym p.is ∙ ap (slice_get c.servers) place ∙ q.is in
       let same : s ≡ t = cc in
       let both : Some a ≡ Some b =
-          sym x.one ∙ ap (λ (z : Server). ending_of a.txn z.ending) same ∙ ap (λ z. ending_of z t.ending) txn ∙ y.one in
+      sym x.one ∙ ap (λ (z : Server). ending_of a.txn z.ending) same ∙ ap (λ z. ending_of z t.ending) txn ∙ y.one in
       cc
 
   -- ## Two messages
@@ -141,11 +141,11 @@ module _ (skew greatest : ℕ) (c : Cluster) (h : ClusterStands skew greatest c)
     pub one_txn : p.message.txn ≡ q.message.txn
     one_txn =
         let mine : In p.message.txn (txns_of d.by c.servers) = subst (λ x. In p.message.txn (txns_of x c.servers))
-            (its_session c led d f at p) (part_txn c led k (inr (its_ending c led d f at p))) in
+        (its_session c led d f at p) (part_txn c led k (inr (its_ending c led d f at p))) in
         let other : In q.message.txn (txns_of e.by c.servers) = subst (λ x. In q.message.txn (txns_of x c.servers))
-            (its_session c led e g there q) (part_txn c led l (inr (its_ending c led e g there q))) in
+        (its_session c led e g there q) (part_txn c led l (inr (its_ending c led e g there q))) in
         one_of_session some_server.0 (In-got c.servers f.to some_server.0 some_server.1) d.by p.message.txn q.message.txn mine
-            (subst (λ x. In q.message.txn (txns_of x c.servers)) (sym (one_session d.by e.by same_by)) other)
+        (subst (λ x. In q.message.txn (txns_of x c.servers)) (sym (one_session d.by e.by same_by)) other)
 
     pub u_word : IsDecidingWord (desks_of led.parts c) k u
     u_word = w c led d f at p
@@ -160,7 +160,7 @@ module _ (skew greatest : ℕ) (c : Cluster) (h : ClusterStands skew greatest c)
         let a = led.told k t.at t.effects (told c led d f at p) d.effect (told_effect c led d f at p) in
         let b = led.told l v.at v.effects (told c led e g there q) e.effect (told_effect c led e g there q) in
         let apart : same (led.parts k).part.file (led.parts l).part.file ≡ false =
-            led.files k l one_txn other (known k t.at t.stage) (known l v.at v.stage) in
+        led.files k l one_txn other (known k t.at t.stage) (known l v.at v.stage) in
         let one : (led.parts k).part.file ≡ (led.parts l).part.file = sym a.file ∙ files ∙ b.file in
         let wrong : true ≡ false = sym (same_self (led.parts l).part.file) ∙ ap (λ x. same x (led.parts l).part.file) (sym one) ∙ apart in
         absurd (cc)
@@ -181,17 +181,17 @@ module _ (skew greatest : ℕ) (c : Cluster) (h : ClusterStands skew greatest c)
     other_part g d e p q i txn number =
         let key : Key = key_of q.message.txn q.message.number in
         let is : key_of p.message.txn p.message.number ≡ key =
-            ap (λ t. key_of t p.message.number) txn ∙ ap (key_of q.message.txn) number in
+        ap (λ t. key_of t p.message.number) txn ∙ ap (key_of q.message.txn) number in
         let two : 2 ≤ length (told_of key (telling_of (front ++ f ∷ back))) =
-            two_words key front back f g (word c led e f here q) (word c led d g (others_there g i) p)
-                (told_as c led e f here q) (told_as c led d g (others_there g i) p)
-                (key_itself key)
-                (ap (λ x. is_of key (let z : Told = record (word c led d g (others_there g i) p) { key = x } in z)) is
-                ∙ key_itself key) i in
+        two_words key front back f g (word c led e f here q) (word c led d g (others_there g i) p)
+        (told_as c led e f here q) (told_as c led d g (others_there g i) p)
+        (key_itself key)
+        (ap (λ x. is_of key (let z : Told = record (word c led d g (others_there g i) p) { key = x } in z)) is
+        ∙ key_itself key) i in
         let one : length (told_of key (telling_of c.in_flight)) ≤ 1 =
-            at_most key (led.parts key) (stage_of_key c.servers key) _ (told_of key (telling_of c.in_flight)) (led.stages key) in
+        at_most key (led.parts key) (stage_of_key c.servers key) _ (told_of key (telling_of c.in_flight)) (led.stages key) in
         let same : length (told_of key (telling_of c.in_flight)) ≡ length (told_of key (telling_of (front ++ f ∷ back))) =
-            ap (λ fs. length (told_of key (telling_of fs))) whole in
+        ap (λ fs. length (told_of key (telling_of fs))) whole in
         absurd (omega (arith, two, one, same))
 
     pub own_files : (d e : Decided) → In d (decided_among c.servers (front ++ back)) → In e (decided_by c.servers f.message)

@@ -51,8 +51,8 @@ pub record HasReady (servers : List Server) (key : Key) (at : ℕ) (w : Wanted) 
 pub has_ready : (servers : List Server) (key : Key) (at : ℕ) (w : Wanted) → prepared_in servers at key ≡ Some w → HasReady servers key at w
 has_ready servers key at w e =
     elim (slice_get servers at) as
-        (λ o. slice_get servers at ≡ o → option_map wanted_of (find (is_part key.txn key.part) (ready_at o)) ≡ Some w
-        → HasReady servers key at w) [
+    (λ o. slice_get servers at ≡ o → option_map wanted_of (find (is_part key.txn key.part) (ready_at o)) ≡ Some w
+    → HasReady servers key at w) [
       | None ↦ λ f g. absurd (cc)
       | Some s ↦ λ f g. of_part s f (find (is_part key.txn key.part) s.prepared) refl g
     ] refl e

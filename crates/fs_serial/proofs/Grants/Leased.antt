@@ -92,6 +92,7 @@ module _ (skew greatest : ℕ) (by : Session) (t : Sight) (d : Settled) (l : Lea
       held = λ e i u j. let q = h.held e i u j in record { lease = q.lease; held = In-front q.lease d.leases (l ∷ []) q.held; number = q.number; field = q.field; kind = q.kind };
       backed = h.backed;
       parts = h.parts;
+      lives = h.lives;
       right = h.right;
     }) f.led;
   }

@@ -1,18 +1,23 @@
 -- A client asks a server to lead an operation: all that holds of its session.
 use Rattle.std.proofs.Common.{◌≡◌, ℕ, ◌+◌, ◌<◌, ◌≤◌, true, List, [], ◌∷◌, ◌++◌, ◌⊎◌, map, refl, sym, ap, ◌∙◌, subst, inl, inr, arith}
+use Rattle.std.specs.FinMap.{get}
 use Rattle.std.specs.Prelude.{Some, None, is_some, option_map}
 use Rattle.fs_ident.specs.In.{In}
 use Rattle.fs_ident.specs.declared.actor.Session.{Session}
 use Rattle.fs_ident.specs.declared.kind.Kind.{Kind}
+use Rattle.fs_ident.specs.declared.kind.Kind.TheVariants.{Dir}
 use Rattle.fs_field.specs.Field.{file_of}
 use Rattle.fs_field.specs.declared.asked.Need.{Need}
 use Rattle.fs_field.specs.declared.asked.Need.TheVariants as need
 use Rattle.fs_field.specs.declared.field.Field.{Field}
 use Rattle.fs_field.specs.declared.field.Field.TheVariants.{Child, Life}
 use Rattle.fs_field.specs.declared.lease_kind.LeaseKind.{LeaseKind}
-use Rattle.fs_field.specs.declared.lease_kind.LeaseKind.TheVariants.{Exclusive}
+use Rattle.fs_field.specs.declared.lease_kind.LeaseKind.TheVariants.{Exclusive, Shared}
 use Rattle.fs_field.specs.declared.used.Use.{Use}
 use Rattle.fs_field.specs.declared.value.Value.{Value}
+use Rattle.fs_field.specs.declared.value.Value.TheVariants as value
+use Rattle.fs_model.specs.Asking.{home_of}
+use Rattle.fs_model.specs.Sound.{kind_of}
 use Rattle.fs_model.specs.declared.op.Op.{Op}
 use Rattle.fs_model.specs.declared.reply.Reply.{Reply}
 use Rattle.fs_msg.specs.declared.answer.Answer.{Answer}
@@ -20,6 +25,7 @@ use Rattle.fs_msg.specs.declared.client_msg.ClientMsg.{ClientMsg}
 use Rattle.fs_msg.specs.declared.client_msg.ClientMsg.TheVariants.{Lead}
 use Rattle.fs_msg.specs.declared.entry.Entry.{Entry}
 use Rattle.fs_msg.specs.declared.item.Item.{Item}
+use Rattle.fs_record.specs.Records.{node_of}
 use Rattle.fs_record.specs.ValueOf.{value_of}
 use Rattle.fs_client.specs.Acts.{led_with}
 use Rattle.fs_client.specs.Client.{with_lead}
@@ -39,7 +45,8 @@ use Rattle.fs_server.specs.Asks.{kind_for}
 use Rattle.fs_server.specs.Leads.{parts_in, uses_of}
 use Rattle.fs_serial.specs.Exchange.{ExchangeFits, IsFront, IsToBeLed, ReturnFits, ReturnsFit, due}
 use Rattle.fs_serial.specs.Leases.{IsBacked}
-use Rattle.fs_serial.specs.Led.{IsLeadAnswer, LedStands}
+use Rattle.fs_serial.specs.Gone.{IsOfGone}
+use Rattle.fs_serial.specs.Led.{HomeLives, IsLeadAnswer, LedStands}
 use Rattle.fs_serial.specs.Parts.{SessionFits, SessionHolds}
 use Rattle.fs_serial.specs.Pending.{AllStand, HasLease, IsCovered, Stands}
 use Rattle.fs_serial.specs.Settled.{Lease, Settled, effects_in, lease_in, lease_with, settled_now}
@@ -48,11 +55,11 @@ use Rattle.fs_serial.proofs.Grants.Claims.{NoneAnew, none_anew}
 use Rattle.fs_serial.proofs.OtherSessions.Gone.{lost_in, lost_unread}
 use Rattle.fs_serial.proofs.ClientMessages.Heard.{quiet_renewed}
 use Rattle.fs_serial.proofs.Returns.KeptPairs.{no_pairs}
-use Rattle.fs_serial.proofs.Replies.Knowing.{In-filter_map, IsKnown, IsUseOf, all_there, from-filter_map, known_by_lease, use_from}
+use Rattle.fs_serial.proofs.Replies.Knowing.{In-filter_map, IsKnown, IsUseOf, all_there, from-filter_map, known_by_lease, use_from, used_there}
 use Rattle.fs_serial.proofs.Returns.Lapse.{number_there}
 use Rattle.fs_serial.proofs.LedOperations.LedKept.{in_before, one_entry}
 use Rattle.fs_serial.proofs.LedOperations.MoveScripts.{AsksOn, IsItemOn, file_led, home_led, items_on, move_on, source_led, use_of_part}
-use Rattle.fs_serial.proofs.LedOperations.MovedItems.{moved_alike, moved_parts}
+use Rattle.fs_serial.proofs.LedOperations.MovedItems.{AsksHome, home_asked, moved_alike, moved_parts}
 use Rattle.fs_serial.proofs.Replies.Reply.{IsOfLease, value_seen}
 use Rattle.fs_serial.proofs.Replies.ReplyAll.{not_leaving}
 use Rattle.fs_serial.proofs.Replies.ReplyNext.{covers, has_too, of_lease, walked}
@@ -173,6 +180,30 @@ module _ (skew greatest : ℕ) (s : Sight) (by : Session) (replied : List Item) 
           subst OnFiles (sym (ap file_of k.serving.on) ∙ ap (λ (x : Use). file_of x.field) same) on.1
       at (need.Fresh dir) j e on = absurd on
 
+  -- ## Its home lives
+
+  lives : HomeLives s.rows s.records by l
+  lives =
+      let home = home_of o in
+      let q : AsksHome (known_by c.view c.last) (given_by c.view c.last) o = home_asked (known_by c.view c.last) (given_by c.view c.last) o r leads known in
+      let k : IsKnown c.view c.last (Life home) Shared = known_by_lease c.view c.last (Life home) Shared (all_there (known_by c.view c.last) (given_by c.view c.last) (script_of o) (ap is_some known) (need.Lease (Life home) Shared) q.item) in
+      let m = lease_with k.kept k.serving.lease in
+      let held : In m d.leases = In-filter_map lease_in k.kept m c.view.leases k.among (ap (option_map (lease_with k.kept)) k.serving.is) in
+      let on : m.field ≡ Life home = k.serving.on in
+      let kind = kind_of (node_of (get s.records home)) in
+      let seen : known_by c.view c.last (Life home) Shared ≡ Some m.base = k.value ∙ ap (λ es. Some (value_after_log c.view.session (Life home) k.kept.base es)) (h.client.pending ∙ ap (map (effects_in by)) empty) in
+      record {
+        used = use_of k.serving.lease;
+        among = used_there c.view c.last o (need.Lease (Life home) Shared) (use_of k.serving.lease) q.item k.used;
+        field = on;
+        told = λ x i e. elim (holds.telling m held x i e) as (λ _. value_of s.records by k.serving.lease.field ≡ value.Life (Some Dir)) [
+          | inl gone ↦ absurd (subst (IsOfGone s.records s.journal) on gone)
+          | inr told ↦
+            let is : m.base ≡ value.Life kind = told ∙ ap (value_of s.records by) on in
+            ap (value_of s.records by) on ∙ ap value.Life (q.dir kind (seen ∙ ap Some is))
+        ];
+      }
+
   stands : LedStands skew greatest s by (led_as l d) l
   stands = record {
     leads = leads;
@@ -181,6 +212,7 @@ module _ (skew greatest : ℕ) (s : Sight) (by : Session) (replied : List Item) 
     held = one_entry l.entry own;
     backed = one_entry l.entry backed;
     parts = of_parts;
+    lives = lives;
     right = right;
   }
 

@@ -21,6 +21,7 @@ use Rattle.fs_model.specs.declared.reply.Reply.{Reply}
 use Rattle.fs_model.specs.declared.reply.Reply.TheVariants as reply
 use Rattle.std.specs.FinMap.{get}
 use Rattle.fs_ident.specs.declared.actor.Session.{Session}
+use Rattle.fs_model.specs.Asking.{home_of}
 use Rattle.fs_model.specs.Sound.{kind_of}
 use Rattle.fs_record.specs.Records.{RecordMap, node_of}
 use Rattle.fs_record.specs.ValueOf.{value_of}
@@ -51,6 +52,12 @@ stands_first n false w = inl refl
 stands_behind : (n x : Need) (b : Bool) (w : Walk) → In x w.items → In x (behind n b w).items
 stands_behind n x true w i = inr i
 stands_behind n x false w i = inr i
+
+-- the directory to which something goes lives, where the values give such a reply
+lives_as : (k : Option Kind) → no_dir_to (Some k) ≡ None → k ≡ Some Dir
+lives_as None h = absurd (cc)
+lives_as (Some File) h = absurd (cc)
+lives_as (Some Dir) h = refl
 
 module _ (known : Known) (given : Given) where
   abbrev items_in : Script → List Need
@@ -221,6 +228,52 @@ module _ (known : Known) (given : Given) where
   placed_items (op.Delete dir name) r file l h f = tt
   placed_items o r file l h f = absurd (cc)
 
+  -- ## The home
+
+  -- the life of the directory from which something goes, or to which it moves, is asked for, and it is a directory
+  pub record AsksHome (o : Op) : Type 0 where
+    pub item : In (need.Lease (Life (home_of o)) Shared) (items_in (script_of o))
+    pub dir : (k : Option Kind) → known (Life (home_of o)) Shared ≡ Some (value.Life k) → k ≡ Some Dir
+
+  is_dir : (k : Option Kind) → no_dir (Some k) ≡ None → k ≡ Some Dir
+  is_dir None h = absurd (cc)
+  is_dir (Some File) h = absurd (cc)
+  is_dir (Some Dir) h = refl
+
+  -- a script that asks for it first
+  first_asked : (dir : List ℕ) (r : Reply) (s : Script) → (r ≡ reply.Gone → ⊥) → (r ≡ reply.NotDir → ⊥) → Comes (ask (Life dir) Shared (λ life. unless (no_dir (life_told life)) s)) r → (k : Option Kind) → known (Life dir) Shared ≡ Some (value.Life k) → k ≡ Some Dir
+  first_asked dir r s a b h k e =
+      let o = no_dir (life_told (known (Life dir) Shared)) in
+      let p = past o s r (λ x. no_dir_else (life_told (known (Life dir) Shared)) x r a b) (reply_behind (need.Lease (Life dir) Shared) (is_some (known (Life dir) Shared)) (walk_along known given (unless o s)) r h) in
+      is_dir k (sym (ap (λ v. no_dir (life_told v)) e) ∙ p.0)
+
+  rename_home : (sdir sname ddir dname : List ℕ) (b : Bool) → same sdir ddir ≡ b → Comes (script_of (op.Rename sdir sname ddir dname)) reply.Renamed → AsksHome (op.Rename sdir sname ddir dname)
+  rename_home sdir sname ddir dname true t h =
+      let is : sdir ≡ ddir = same_is sdir ddir t in
+      record {
+        item = subst (λ d. In (need.Lease (Life d) Shared) (items_in (script_of (op.Rename sdir sname ddir dname)))) is (stands_first (need.Lease (Life sdir) Shared) (is_some (known (Life sdir) Shared)) _);
+        dir = λ k e. first_asked sdir reply.Renamed (ask_rename sdir sname ddir dname) (λ e. cc) (λ e. cc) h k (subst (λ d. known (Life d) Shared ≡ Some (value.Life k)) (sym is) e);
+      }
+  rename_home sdir sname ddir dname false t h =
+      let p : Passes (ask_other_dir sdir sname ddir dname) (script_of (op.Rename sdir sname ddir dname)) = subst (λ b. Passes (cond b (ask_old_place sdir sname ddir dname) (ask_other_dir sdir sname ddir dname)) (script_of (op.Rename sdir sname ddir dname))) t (to_rename sdir sname ddir dname h) in
+      let v = known (Life ddir) Shared in
+      let o = no_dir_to (life_told v) in
+      let n = need.Lease (Life ddir) Shared in
+      record {
+        item = p.all n (stands_first n (is_some v) _);
+        dir = λ k e. lives_as k (sym (ap (λ v. no_dir_to (life_told v)) e) ∙ (past o (ask_old_place sdir sname ddir dname) reply.Renamed (no_dir_to_else (life_told v)) (reply_behind n (is_some v) (walk_along known given (unless o (ask_old_place sdir sname ddir dname))) reply.Renamed p.comes)).0);
+      }
+
+  pub home_asked : (o : Op) (r : Reply) → is_led o r ≡ true → (walk known given o).reply ≡ Some r → AsksHome o
+  home_asked (op.Delete dir name) reply.Deleted l h = record {
+    item = stands_first (need.Lease (Life dir) Shared) (is_some (known (Life dir) Shared)) _;
+    dir = first_asked dir reply.Deleted (ask_delete dir name) (λ e. cc) (λ e. cc) h;
+  }
+  home_asked (op.Delete dir name) r l h = absurd (cc)
+  home_asked (op.Rename sdir sname ddir dname) reply.Renamed l h = rename_home sdir sname ddir dname (same sdir ddir) refl h
+  home_asked (op.Rename sdir sname ddir dname) r l h = absurd (cc)
+  home_asked o r l h = absurd (cc)
+
 -- ## Whoever knows both the same
 
 file_of_moved : (known : Known) (o : Op) (m : List ℕ × Kind) (f : Option (List ℕ)) → option_and_then (λ file. option_map (λ kind. (file, kind)) (kind_known known o file)) f ≡ Some m → (f ≡ Some m.0) × (kind_known known o m.0 ≡ Some m.1)
@@ -251,12 +304,6 @@ moved_alike known other given (op.Rename sdir sname ddir dname) r m l h k names 
     let q = moved_items known given (op.Rename sdir sname ddir dname) r m.0 l h p.0 in
     moved_whole other (op.Rename sdir sname ddir dname) m (ap file_told (names sdir sname q.child) ∙ p.0) (ap kind_told (lives m.0 Shared q.life) ∙ p.1)
 moved_alike known other given o r m l h k names lives = absurd (cc)
-
--- the directory to which something goes lives, where the values give such a reply
-lives_as : (k : Option Kind) → no_dir_to (Some k) ≡ None → k ≡ Some Dir
-lives_as None h = absurd (cc)
-lives_as (Some File) h = absurd (cc)
-lives_as (Some Dir) h = refl
 
 pub other_dir_lives : (m : RecordMap) (by : Session) (sdir sname ddir dname : List ℕ) → same sdir ddir ≡ false → (walk (known_with (value_of m by)) always (op.Rename sdir sname ddir dname)).reply ≡ Some reply.Renamed → kind_of (node_of (get m ddir)) ≡ Some Dir
 other_dir_lives m by sdir sname ddir dname t h =

@@ -215,7 +215,7 @@ module _ (greatest now : ℕ) (w : World) (by : Session) (h : WorldHolds greates
       (quiet_planned w.server.skew greatest (sight_in w) by (w.replied by) began (w.ends by).up (a ∷ rest) rest (hear from a began) (hear_quiet by began from a)
       (hear_moved w.server.skew greatest (sight_in w) by (w.replied by) began (w.ends by).up rest from a at
       (subst (λ down. SessionStateHolds w.server.skew greatest (sight_in w) by (w.replied by) began
-          (w.ends by).up down) first session_began))))
+      (w.ends by).up down) first session_began))))
 
   pub client_keeps : (e : ClientEvent) → CanCome by e w.ends → greatest ≤ now + w.server.skew → WorldHolds greatest (after_client by now e w)
   client_keeps (Does o) can within = acts o can within
@@ -227,5 +227,5 @@ module _ (greatest now : ℕ) (w : World) (by : Session) (h : WorldHolds greates
   never_strange from a rest can =
       let fit = fits_first w.server.skew greatest (sight_in w) by (w.replied by) began (w.ends by).up rest from a can.1
       (subst (λ down. SessionStateHolds w.server.skew greatest (sight_in w) by (w.replied by) began
-          (w.ends by).up down) can.0 session_began) in
+      (w.ends by).up down) can.0 session_began) in
       subst (λ b. (cond b (told a began) (strange began)).out.note ≢ note.Strange) (sym fit) (told_known began from a fit)

@@ -41,7 +41,7 @@ session_beside skew greatest s x replied c up down journal grows same h =
     let items : all_items x journal d.log ≡ all_items x s.journal d.log = ap (λ is. is ++ map (item_of x) d.log) same in
     record {
       holds = record { backed = h.holds.backed; telling = telling_later s.rows s.records s.journal journal grows x d.leases h.holds.telling; pending = h.holds.pending; numbers = subst (λ is. AreNumbered 1 is d.next) (sym items) h.holds.numbers; replies = items ∙ h.holds.replies };
-      fits = record { given = h.fits.given; distinct = h.fits.distinct; matching = h.fits.matching; fresh = h.fits.fresh; held = h.fits.held; backed = h.fits.backed; entries = h.fits.entries; once = h.fits.once; refused = h.fits.refused; led = each_led skew greatest greatest s (with_journal journal s) x d d d.led (λ l is h. record { leads = h.leads; number = h.number; empty = h.empty; held = h.held; backed = h.backed; parts = h.parts; right = h.right }) h.fits.led };
+      fits = record { given = h.fits.given; distinct = h.fits.distinct; matching = h.fits.matching; fresh = h.fits.fresh; held = h.fits.held; backed = h.fits.backed; entries = h.fits.entries; once = h.fits.once; refused = h.fits.refused; led = each_led skew greatest greatest s (with_journal journal s) x d d d.led (λ l is h. record { leads = h.leads; number = h.number; empty = h.empty; held = h.held; backed = h.backed; parts = h.parts; lives = h.lives; right = h.right }) h.fits.led };
       client = h.client;
       exchange = h.exchange;
     }

@@ -118,6 +118,7 @@ module _ (skew greatest : ℕ) (s : Sight) (by : Session) (replied : List Item) 
     held = one_entry l.entry (λ u i. let q : HasLease d.leases u = h.held l.entry (inl refl) u i in record { lease = q.lease; held = f.still q.lease q.held (subst these (sym q.number) (here u i)); number = q.number; field = q.field; kind = q.kind });
     backed = h.backed;
     parts = h.parts;
+    lives = h.lives;
     right = h.right;
   }
 

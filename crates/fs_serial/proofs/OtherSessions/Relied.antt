@@ -5,6 +5,7 @@ use Rattle.std.specs.FinMap.{get}
 use Rattle.fs_ident.specs.In.{In}
 use Rattle.fs_ident.specs.declared.actor.LeaseNo.{LeaseNo}
 use Rattle.fs_ident.specs.declared.actor.Session.{Session}
+use Rattle.fs_ident.specs.declared.kind.Kind.TheVariants.{Dir}
 use Rattle.fs_field.specs.declared.asked.Need.TheVariants as need
 use Rattle.fs_field.specs.declared.field.Field.{Field}
 use Rattle.fs_field.specs.declared.field.Field.TheVariants.{Child, Life}
@@ -13,6 +14,7 @@ use Rattle.fs_field.specs.declared.lease_kind.LeaseKind.TheVariants.{Exclusive}
 use Rattle.fs_field.specs.declared.row.Row.{Row}
 use Rattle.fs_field.specs.declared.used.Use.{Use}
 use Rattle.fs_field.specs.declared.value.Value.{Value}
+use Rattle.fs_field.specs.declared.value.Value.TheVariants as value
 use Rattle.fs_msg.specs.declared.answer.Answer.{Answer}
 use Rattle.fs_msg.specs.declared.entry.Entry.{Entry}
 use Rattle.fs_msg.specs.declared.item.Item.{Item}
@@ -29,7 +31,7 @@ use Rattle.fs_client.specs.Turns.{pair_of}
 use Rattle.fs_serial.specs.Exchange.{ReturnsFit, RenewalsBacked}
 use Rattle.fs_serial.specs.Fresh.{IsMade}
 use Rattle.fs_serial.specs.Gone.{IsOfGone}
-use Rattle.fs_serial.specs.Led.{IsLeadAnswer, LedStands}
+use Rattle.fs_serial.specs.Led.{HomeLives, IsLeadAnswer, LedStands}
 use Rattle.fs_serial.specs.Leases.{IsBacked, LeasesBacked, LeasesTrue, LeasesMatch}
 use Rattle.fs_server.specs.Ships.{item_of}
 use Rattle.fs_serial.specs.Numbers.{items_by, AreNumbered, all_items, NumbersInOrder}
@@ -197,6 +199,23 @@ module _ (skew greatest : ℕ) (by : Session) (s t : Sight) (d : Settled) (rely 
 
   -- ## What is led
 
+  home_still : (l : Led) → LedStands skew greatest s by d l → HomeLives t.rows t.records by l
+  home_still l h = record {
+    used = h.lives.used;
+    among = h.lives.among;
+    field = h.lives.field;
+    told = λ r i e.
+        let q : HasLease d.leases h.lives.used = h.held l.entry (inl refl) h.lives.used h.lives.among in
+        let n : r.no ≡ q.lease.no = e ∙ sym q.number in
+        let p = stood q.lease q.held r i n in
+        let m = matching q.lease q.held r i n in
+        let on : r.field ≡ h.lives.used.field = m.field ∙ q.field in
+        elim (rely.values r i (subst (λ n. IsGiven s.given n) (sym n) (f.given q.lease q.held)) m.session) as (λ _. value_of t.records by h.lives.used.field ≡ value.Life (Some Dir)) [
+          | inl gone ↦ absurd (subst (IsOfGone t.records s.journal) (on ∙ h.lives.field) gone)
+          | inr same ↦ ap (value_of t.records by) (sym on) ∙ same ∙ ap (value_of s.records by) on ∙ h.lives.told p.row p.stood (p.number ∙ e)
+        ];
+  }
+
   led_still : (l : Led) → LedStands skew greatest s by d l → LedStands skew greatest t by d l
   led_still l h = record {
     leads = h.leads;
@@ -205,6 +224,7 @@ module _ (skew greatest : ℕ) (by : Session) (s t : Sight) (d : Settled) (rely 
     held = h.held;
     backed = one_entry l.entry (λ u i late. let q = h.held l.entry (inl refl) u i in backed_still q.lease q.held u.no u.until (sym q.number) late (h.backed l.entry (inl refl) u i late));
     parts = h.parts;
+    lives = home_still l h;
     right = λ stand. lead_alike t.rows by (value_of s.records by) (value_of t.records by) l h.leads
         (λ r i own u j n. agree_unread (value_of s.records by) (value_of t.records by) agree_at_first r i (subst (λ n. IsGiven s.given n) (sym n) (given_by u (h.held l.entry (inl refl) u j))) own)
         stand (h.right (stood_all l.entry (h.held l.entry (inl refl)) stand));

@@ -105,6 +105,7 @@ module _ (skew greatest : ℕ) (s : Sight) (by : Session) (replied : List Item) 
       held = one_entry led.entry (λ u i. one_held u (h.held led.entry (inl refl) u i));
       backed = h.backed;
       parts = h.parts;
+      lives = h.lives;
       right = h.right;
     }) f.led;
   }

@@ -74,8 +74,11 @@ never_asked : (number at : ℕ) (xs : List (ℕ × ℕ)) → awaited_stage numbe
 never_asked number at [] e = absurd (cc)
 never_asked number at (x ∷ xs) e =
     elim (x.0 == number) as
-    (λ b. cond b (Awaited x.1) (awaited_stage number xs) ≡ Asked at → ⊥) [ true ↦ λ q. absurd (cc) | false ↦
-    λ q. never_asked number at xs q ] e
+    (λ b. cond b (Awaited x.1) (awaited_stage number xs) ≡ Asked at → ⊥) [
+      | true ↦ λ q. absurd (cc)
+      | false ↦
+          λ q. never_asked number at xs q
+    ] e
 
 pub asked_by : (number at : ℕ) (l : Option Leading) (x : Option Ending) → stage_in number l x ≡ Asked at → IsAskedBy number l at
 asked_by number at None None e = absurd (cc)
@@ -106,8 +109,11 @@ pub is_awaited : (number at : ℕ) (xs : List (ℕ × ℕ)) → awaited_stage nu
 is_awaited number at [] e = absurd (cc)
 is_awaited number at (x ∷ xs) e =
     elim (x.0 == number) as
-    (λ b. cond b (Awaited x.1) (awaited_stage number xs) ≡ Awaited at → (b || awaits_done number xs) ≡ true) [ true ↦ λ q. refl | false ↦
-    λ q. is_awaited number at xs q ] e
+    (λ b. cond b (Awaited x.1) (awaited_stage number xs) ≡ Awaited at → (b || awaits_done number xs) ≡ true) [
+      | true ↦ λ q. refl
+      | false ↦
+          λ q. is_awaited number at xs q
+    ] e
 
 -- ## A word that comes to a server
 
@@ -172,14 +178,14 @@ counted_known : (number : ℕ) (v : Vote) (l : Leading) (s : Server) → IsKnown
 counted_known number v l s =
     elim (is_full (with_vote number v l).leader.votes) as
     (λ b. IsKnown (cond b (concludes (with_vote number v l) [] s) (waits (note.Waits l.leader.txn) (with_vote number v l) [] s))) [
-  | true ↦ concluded_known (with_vote number v l) [] s
-  | false ↦ λ e. absurd (cc)
-]
+      | true ↦ concluded_known (with_vote number v l) [] s
+      | false ↦ λ e. absurd (cc)
+    ]
 
 home_known : (number : ℕ) (p : Part) (l : Leading) (s : Server) → IsKnown (comes_home number p l s)
 home_known number p l s =
     elim (is_mine s p.file) as
-        (λ b. IsKnown (cond b (counts_own number p (vote_here s l.leader.session p) l s) (seeks number (server_of s.map p.file) p l s))) [
+    (λ b. IsKnown (cond b (counts_own number p (vote_here s l.leader.session p) l s) (seeks number (server_of s.map p.file) p l s))) [
       | true ↦
           counted_known number (vote_here s l.leader.session p) (asked_at number s.me l)
           (after_own_vote l.leader.txn p (vote_here s l.leader.session p) s)
@@ -218,29 +224,39 @@ module _ (k from : ℕ) (c : Cluster) (s : Server) (at : slice_get c.servers k �
       let asked : Wanted = record { session = m.session; part = m.part } in
       let told : Told = told_with from k (key, Prepare asked) in
       let q : IsPreparingWord d key told =
-          preparing_word d key told refl held.stages (word_there (peer.Prepare m) (key, Prepare asked) refl comes) asked refl in
+      preparing_word d key told refl held.stages (word_there (peer.Prepare m) (key, Prepare asked) refl comes) asked refl in
       let to : k ≡ q.at = ap (λ (x : Told). x.to) q.is in
       let word : Prepare asked ≡ Prepare (d.parts key) = ap (λ (x : Told). x.word) q.is in
       let same : d.parts key ≡ asked = cc in
-      record { leader = ap (λ (x : Told). x.from) q.is; stage = q.stage ∙ ap Asked (sym to); elsewhere =
-          ap (λ z. z == key.txn.server) to ∙ q.elsewhere; wanted = same; nowhere = q.nowhere }
+      record {
+        leader = ap (λ (x : Told). x.from) q.is;
+        stage = q.stage ∙ ap Asked (sym to);
+        elsewhere =
+            ap (λ z. z == key.txn.server) to ∙ q.elsewhere;
+        wanted = same;
+        nowhere = q.nowhere;
+      }
 
   pub vote_here_is : (m : VotedMsg) → Comes k from c (peer.Vote m) → IsVoteHere d from k (key_of m.txn m.number)
   vote_here_is m comes =
       let key : Key = key_of m.txn m.number in
       let told : Told = told_with from k (key, Voted m.vote) in
       let q : IsVotedWord d key told m.vote =
-          voted_word d key told refl held.stages (word_there (peer.Vote m) (key, Voted m.vote) refl comes) m.vote refl in
+      voted_word d key told refl held.stages (word_there (peer.Vote m) (key, Voted m.vote) refl comes) m.vote refl in
       let by : from ≡ q.at = ap (λ (x : Told). x.from) q.is in
-      record { leader = ap (λ (x : Told). x.to) q.is; stage = q.stage ∙ ap Asked (sym by); elsewhere =
-          ap (λ z. z == key.txn.server) by ∙ q.elsewhere }
+      record {
+        leader = ap (λ (x : Told). x.to) q.is;
+        stage = q.stage ∙ ap Asked (sym by);
+        elsewhere =
+            ap (λ z. z == key.txn.server) by ∙ q.elsewhere;
+      }
 
   pub decide_here : (m : DecideMsg) → Comes k from c (peer.Decide m) → IsDecideHere d from k (key_of m.txn m.number)
   decide_here m comes =
       let key : Key = key_of m.txn m.number in
       let told : Told = told_with from k (key, Decide m.effects) in
       let q : IsDecidingWord d key told =
-          deciding_word d key told refl held.stages (word_there (peer.Decide m) (key, Decide m.effects) refl comes) m.effects refl in
+      deciding_word d key told refl held.stages (word_there (peer.Decide m) (key, Decide m.effects) refl comes) m.effects refl in
       let to : k ≡ q.at = ap (λ (x : Told). x.to) q.is in
       record {
         leader = ap (λ (x : Told). x.from) q.is;
@@ -255,8 +271,13 @@ module _ (k from : ℕ) (c : Cluster) (s : Server) (at : slice_get c.servers k �
       let told : Told = told_with from k (key, Done) in
       let q : IsDoneWord d key told = done_word d key told refl held.stages (word_there (peer.Done m) (key, Done) refl comes) refl in
       let by : from ≡ q.at = ap (λ (x : Told). x.from) q.is in
-      record { leader = ap (λ (x : Told). x.to) q.is; stage = q.stage ∙ ap Awaited (sym by); elsewhere =
-          ap (λ z. z == key.txn.server) by ∙ q.elsewhere; nowhere = q.nowhere }
+      record {
+        leader = ap (λ (x : Told). x.to) q.is;
+        stage = q.stage ∙ ap Awaited (sym by);
+        elsewhere =
+            ap (λ z. z == key.txn.server) by ∙ q.elsewhere;
+        nowhere = q.nowhere;
+      }
 
   -- ## It is awaited
 
@@ -271,7 +292,7 @@ module _ (k from : ℕ) (c : Cluster) (s : Server) (at : slice_get c.servers k �
   prepare_awaited m comes =
       let key : Key = key_of m.txn m.number in
       ap (λ b. cond b (strange s) (votes (vote_here s m.session m.part) from m s))
-          (is_ready key ∙ ap is_some ((prepare_here m comes).nowhere k))
+      (is_ready key ∙ ap is_some ((prepare_here m comes).nowhere k))
 
   pub decide_awaited : (m : DecideMsg) → Comes k from c (peer.Decide m) → decide_step from m s ≡ applies from m s
   decide_awaited m comes =
@@ -287,7 +308,7 @@ module _ (k from : ℕ) (c : Cluster) (s : Server) (at : slice_get c.servers k �
   vote_asked m comes =
       let q = vote_here_is m comes in
       asked_by m.number from (leading_of m.txn s.leading) (ending_of m.txn s.ending)
-          (own_stage (key_of m.txn m.number) (Asked from) q.leader q.stage)
+      (own_stage (key_of m.txn m.number) (Asked from) q.leader q.stage)
 
   pub vote_awaited : (m : VotedMsg) → Comes k from c (peer.Vote m) → IsAwaited s m
   vote_awaited m comes =
@@ -295,11 +316,18 @@ module _ (k from : ℕ) (c : Cluster) (s : Server) (at : slice_get c.servers k �
       let l : Leading = q.leading in
       let i : In l s.leading = (found _ s.leading l q.is).0 in
       let within : m.number < length l.leader.parts =
-          subst (λ n. m.number < n) ((held.leading s (In-got c.servers k s at) l i).votes)
-          (slice_get_within l.leader.votes m.number None q.empty) in
+      subst (λ n. m.number < n) ((held.leading s (In-got c.servers k s at) l i).votes)
+      (slice_get_within l.leader.votes m.number None q.empty) in
       let p = there l.leader.parts m.number within in
-      record { leading = l; led = q.is; among = i; awaited =
-          joined _ _ (lt-ltb m.number (length l.leader.parts) within) (ap is_empty_place q.empty); wanted = p.0; part = p.1 }
+      record {
+        leading = l;
+        led = q.is;
+        among = i;
+        awaited =
+            joined _ _ (lt-ltb m.number (length l.leader.parts) within) (ap is_empty_place q.empty);
+        wanted = p.0;
+        part = p.1;
+      }
 
   pub vote_is : (m : VotedMsg) (q : IsAwaited s m) → vote_step m s ≡ voted m.number m.vote q.leading s
   vote_is m q = ap (λ o. vote_of o m s) q.led ∙ ap (λ b. cond b (voted m.number m.vote q.leading s) (strange s)) q.awaited
@@ -308,14 +336,14 @@ module _ (k from : ℕ) (c : Cluster) (s : Server) (at : slice_get c.servers k �
   done_awaited m comes =
       let q = done_here m comes in
       awaited_by m.number from (leading_of m.txn s.leading) (ending_of m.txn s.ending)
-          (own_stage (key_of m.txn m.number) (Awaited from) q.leader q.stage)
+      (own_stage (key_of m.txn m.number) (Awaited from) q.leader q.stage)
 
   pub done_is : (m : DoneMsg) (q : IsAwaitedBy m.number (ending_of m.txn s.ending) from)
       → done_step m s ≡ done_with (without_done m.number q.ending) (without_done m.number q.ending).awaits s
   done_is m q =
       ap (λ o. done_of o m s) q.is
       ∙ ap (λ b. cond b (done_with (without_done m.number q.ending) (without_done m.number q.ending).awaits s) (strange s))
-          (is_awaited m.number from q.ending.awaits q.stage)
+      (is_awaited m.number from q.ending.awaits q.stage)
 
   pub words_known : (m : PeerMsg) → Comes k from c m → (word_in m ≡ None → ⊥) → IsKnown (word_step from m s)
   words_known (peer.Parcel p) comes word = absurd (word refl)

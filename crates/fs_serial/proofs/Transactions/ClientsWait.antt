@@ -52,7 +52,7 @@ act_waits c now o l h = elim c.over as (λ x. IsWaiting c (committed (act_on x o
 turn_waits : (c : Client) (now : ℕ) (x : Exchange) → c.exchange ≡ Some x → IsWaiting c (committed (turn_plan c now).ready c)
 turn_waits c now x h =
     subst (λ b. IsWaiting c (committed (cond b (idle (begun now c)) (turn_free (begun now c))).ready c)) (sym (ap is_some h))
-        (record { led = refl; exchange = refl })
+    (record { led = refl; exchange = refl })
 
 -- the answer is how an operation that was led ended
 abbrev pub tells_end : Answer → Bool
@@ -64,7 +64,7 @@ unfit : (c : Client) (now from n : ℕ) (a : Answer) → c.exchange ≡ Some (Le
     → IsWaiting c (committed (answer_plan c now from a).ready c)
 unfit c now from n a h f =
     subst (λ b. IsWaiting c (committed (cond b (told a (begun now c)) (strange (begun now c))).ready c))
-        (sym (ap (λ x. fits from x a (begun now c)) h ∙ f)) (record { led = refl; exchange = refl })
+    (sym (ap (λ x. fits from x a (begun now c)) h ∙ f)) (record { led = refl; exchange = refl })
 
 hear_waits : (c : Client) (now from n : ℕ) (a : Answer) → c.exchange ≡ Some (Leads n) → tells_end a ≡ false
     → IsWaiting c (committed (answer_plan c now from a).ready c)
@@ -93,19 +93,19 @@ module _ (by : Session) (c : Cluster) (one : length (ends_in c by).up + length (
       → 1 ≤ length (taken_leads by (c.lines by).client.led c.servers)
   taken d led s i l j own =
       let among : In l (filter (λ (m : Leading). m.leader.session.0 == by.0) s.leading) = kept_in
-          (λ (m : Leading). m.leader.session.0 == by.0) l s.leading j (ap (λ (z : Session). z.0 == by.0) own ∙ itself by.0) in
+      (λ (m : Leading). m.leader.session.0 == by.0) l s.leading j (ap (λ (z : Session). z.0 == by.0) own ∙ itself by.0) in
       let its : In (message.Lead (lead_of d)) (taken_at by (Some d) s) = In_all (λ (m : Leading). question_of (Some d))
-          (message.Lead (lead_of d)) l (filter (λ (m : Leading). m.leader.session.0 == by.0) s.leading) among (inl refl) in
+      (message.Lead (lead_of d)) l (filter (λ (m : Leading). m.leader.session.0 == by.0) s.leading) among (inl refl) in
       subst (λ x. 1 ≤ length (taken_leads by x c.servers)) (sym led)
-          (some_length (message.Lead (lead_of d)) (taken_leads by (Some d) c.servers)
-          (In_all (taken_at by (Some d)) (message.Lead (lead_of d)) s c.servers i its))
+      (some_length (message.Lead (lead_of d)) (taken_leads by (Some d) c.servers)
+      (In_all (taken_at by (Some d)) (message.Lead (lead_of d)) s c.servers i its))
 
   owed : (s : Server) → In s c.servers → (x : Ending) → In x s.ending → x.session ≡ by → 1 ≤ length (owed_to by c.servers)
   owed s i x j own =
       let among : In x (filter (λ (m : Ending). m.session.0 == by.0) s.ending) = kept_in (λ (m : Ending). m.session.0 == by.0) x s.ending j
-          (ap (λ (z : Session). z.0 == by.0) own ∙ itself by.0) in
+      (ap (λ (z : Session). z.0 == by.0) own ∙ itself by.0) in
       let its : In (answer.Led x.end) (owed_at by s) = In-mapped (λ (m : Ending). answer.Led m.end) x
-          (filter (λ (m : Ending). m.session.0 == by.0) s.ending) among in
+      (filter (λ (m : Ending). m.session.0 == by.0) s.ending) among in
       some_length (answer.Led x.end) (owed_to by c.servers) (In_all (owed_at by) (answer.Led x.end) s c.servers i its)
 
   -- an answer that is due is the only one
@@ -113,12 +113,12 @@ module _ (by : Session) (c : Cluster) (one : length (ends_in c by).up + length (
       → tells_end a ≡ true → ⊥
   no_end_told n d waits s i leads a j t =
       let up : length (ends_in c by).up ≡ length asked + length (taken_leads by (c.lines by).client.led c.servers) = length-append asked
-          (taken_leads by (c.lines by).client.led c.servers) in
+      (taken_leads by (c.lines by).client.led c.servers) in
       let down : length (due (ends_in c by).down) ≡ length (owed_to by c.servers) + length (due heard) =
-          ap length (due_both (owed_to by c.servers) heard ∙ ap (λ ys. ys ++ due heard) (all_owed_due by c.servers))
-              ∙ length-append (owed_to by c.servers) (due heard) in
+      ap length (due_both (owed_to by c.servers) heard ∙ ap (λ ys. ys ++ due heard) (all_owed_due by c.servers))
+      ∙ length-append (owed_to by c.servers) (due heard) in
       let told_one : 1 ≤ length (due heard) = some_length a (due heard)
-          (kept_in (λ (x : Answer). not (is_recall x)) a heard j (no_recall a t)) in
+      (kept_in (λ (x : Answer). not (is_recall x)) a heard j (no_recall a t)) in
       elim leads as (λ _. ⊥) [
         | inl q ↦ let more : 1 ≤ length (taken_leads by (c.lines by).client.led c.servers) = taken d waits.led s i q.0 q.1.0 q.1.1 in
             absurd (omega (arith, one, up, down, told_one, more))

@@ -51,9 +51,9 @@ passed_over : (me n i at : ℕ) (b : Bool) (xs : List (ℕ × ℕ)) → (i == n)
 passed_over me n i at b xs h =
     front me n i at b xs
     ∙ ap (λ f. cond b (cond (not (at == me)) (cond f ((i, at) ∷ of_number n (off me xs)) (of_number n (off me xs)))
-        (of_number n (off me xs))) (of_number n (off me xs))) h
+    (of_number n (off me xs))) (of_number n (off me xs))) h
     ∙ elim b as (λ b. cond b (cond (not (at == me)) (of_number n (off me xs)) (of_number n (off me xs)))
-        (of_number n (off me xs)) ≡ of_number n (off me xs)) [
+    (of_number n (off me xs)) ≡ of_number n (off me xs)) [
       | true ↦ elim (not (at == me)) as
           (λ c. cond c (of_number n (off me xs)) (of_number n (off me xs)) ≡ of_number n (off me xs)) [ true ↦ refl | false ↦ refl ]
       | false ↦ refl
@@ -138,9 +138,9 @@ pub awaited_first : (n : ℕ) (xs : List (ℕ × ℕ)) → awaited_stage n xs �
 awaited_first n [] = refl
 awaited_first n (x ∷ xs) = elim (x.0 == n) as
     (λ b. cond b (Awaited x.1) (awaited_stage n xs) ≡ first_awaited (cond b (x ∷ of_number n xs) (of_number n xs))) [
-  | true ↦ refl
-  | false ↦ awaited_first n xs
-]
+      | true ↦ refl
+      | false ↦ awaited_first n xs
+    ]
 
 -- ## What is sent
 
@@ -172,11 +172,11 @@ pub words_of : (k : ℕ) (txn : TxnNo) (d : Decision) (key : Key) (out : List (�
 words_of k txn d key [] h = refl
 words_of k txn d key (x ∷ xs) h =
     let rest : told_of key (map (decision_word k txn d) xs) ≡ map (decision_word k txn d) (of_number key.part xs) =
-        words_of k txn d key xs h in
+    words_of k txn d key xs h in
     rw (h, rest) (elim (x.0 == key.part) as
-        (λ b. cond b (decision_word k txn d x ∷ map (decision_word k txn d) (of_number key.part xs))
-        (map (decision_word k txn d) (of_number key.part xs)) ≡ map (decision_word k txn d)
-        (cond b (x ∷ of_number key.part xs) (of_number key.part xs))) [ true ↦ refl | false ↦ refl ])
+    (λ b. cond b (decision_word k txn d x ∷ map (decision_word k txn d) (of_number key.part xs))
+    (map (decision_word k txn d) (of_number key.part xs)) ≡ map (decision_word k txn d)
+    (cond b (x ∷ of_number key.part xs) (of_number key.part xs))) [ true ↦ refl | false ↦ refl ])
 
 pub none_of_words : (k : ℕ) (txn : TxnNo) (d : Decision) (key : Key) (out : List (ℕ × ℕ)) → same_txn txn key.txn ≡ false
     → told_of key (map (decision_word k txn d) out) ≡ []

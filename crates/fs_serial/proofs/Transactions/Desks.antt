@@ -53,9 +53,9 @@ pub record IsHeard (from k : ℕ) (in_flight : List InFlight) (m : Told) : Type 
 told_between : (from k : ℕ) (f : InFlight) (m : Told) → told_in f ≡ Some m → is_between from k m ≡ cluster.is_between from k f
 told_between from k f m e =
     elim (word_in f.message) as (λ o. option_map (told_with f.from f.to) o ≡ Some m → is_between from k m ≡ cluster.is_between from k f) [
-  | None ↦ λ q. absurd (cc)
-  | Some w ↦ λ q. let same : told_with f.from f.to w ≡ m = cc in ap (is_between from k) (sym same)
-] e
+      | None ↦ λ q. absurd (cc)
+      | Some w ↦ λ q. let same : told_with f.from f.to w ≡ m = cc in ap (is_between from k) (sym same)
+    ] e
 
 is_heard : (from k : ℕ) (m : PeerMsg) (w : Key × Word) → word_in m ≡ Some w
     → told_in (record { from = from; to = k; message = m }) ≡ Some (told_with from k w)
@@ -63,15 +63,15 @@ is_heard from k m w e = ap (option_map (told_with from k)) e
 
 pub heard : (from k : ℕ) (m : PeerMsg) (w : Key × Word) (in_flight : List InFlight) → word_in m ≡ Some w
     → find (cluster.is_between from k) in_flight ≡ Some (record { from = from; to = k; message = m })
-        → IsHeard from k in_flight (told_with from k w)
+    → IsHeard from k in_flight (told_with from k w)
 heard from k m w [] said f = absurd (cc)
 heard from k m w (x ∷ xs) said f = at (cluster.is_between from k x) refl f (told_in x) refl (λ g. heard from k m w xs said g)
   where
     at : (b : Bool) → cluster.is_between from k x ≡ b → cond b (Some x) (find (cluster.is_between from k) xs) ≡ Some
         (record { from = from; to = k; message = m })
         → (o : Option Told) → told_in x ≡ o →
-            (find (cluster.is_between from k) xs ≡ Some (record { from = from; to = k; message = m })
-            → IsHeard from k xs (told_with from k w)) → IsHeard from k (x ∷ xs) (told_with from k w)
+        (find (cluster.is_between from k) xs ≡ Some (record { from = from; to = k; message = m })
+        → IsHeard from k xs (told_with from k w)) → IsHeard from k (x ∷ xs) (told_with from k w)
     at true t g o e rest =
         let is : x ≡ (let f : InFlight = record { from = from; to = k; message = m } in f) = cc in
         let told : told_in x ≡ Some (told_with from k w) = ap told_in is ∙ is_heard from k m w said in
@@ -81,7 +81,7 @@ heard from k m w (x ∷ xs) said f = at (cluster.is_between from k x) refl f (to
               ∙ ap (λ b. cond b (Some (told_with from k w)) (find (is_between from k) (telling_of xs))) between;
           left = ap (λ b. telling_of (cond b xs (x ∷ cluster.without_first (cluster.is_between from k) xs))) t
               ∙ sym (ap (λ o. without_first (is_between from k) (cons_option o (telling_of xs))) told
-                  ∙ ap (λ b. cond b (telling_of xs) (told_with from k w ∷ without_first (is_between from k) (telling_of xs))) between);
+              ∙ ap (λ b. cond b (telling_of xs) (told_with from k w ∷ without_first (is_between from k) (telling_of xs))) between);
         }
     at false t g None e rest =
         let r = rest g in
@@ -101,7 +101,7 @@ heard from k m w (x ∷ xs) said f = at (cluster.is_between from k x) refl f (to
               ∙ ap (λ o. cons_option o (telling_of (cluster.without_first (cluster.is_between from k) xs))) e
               ∙ ap (λ ys. y ∷ ys) r.left
               ∙ sym (ap (λ o. without_first (is_between from k) (cons_option o (telling_of xs))) e
-                  ∙ ap (λ b. cond b (telling_of xs) (y ∷ without_first (is_between from k) (telling_of xs))) off);
+              ∙ ap (λ b. cond b (telling_of xs) (y ∷ without_first (is_between from k) (telling_of xs))) off);
         }
 
 -- the same, where it is known which word it is
@@ -111,7 +111,7 @@ pub record IsTakenWord (from k : ℕ) (in_flight : List InFlight) (m : Told) : T
 
 pub heard_as : (from k : ℕ) (m : PeerMsg) (w : Key × Word) (in_flight : List InFlight) (x : Told) → word_in m ≡ Some w
     → find (cluster.is_between from k) in_flight ≡ Some (record { from = from; to = k; message = m }) → told_with from k w ≡ x
-        → IsTakenWord from k in_flight x
+    → IsTakenWord from k in_flight x
 heard_as from k m w in_flight x said f is =
     let h = heard from k m w in_flight said f in
     record {
@@ -127,10 +127,10 @@ not_heard is [] f g e = refl
 not_heard is (x ∷ xs) f g e =
     elim (is x) as
     (λ b. cond b (Some x) (find is xs) ≡ Some f → telling_of (cond b xs (x ∷ cluster.without_first is xs)) ≡ telling_of (x ∷ xs)) [
-  | true ↦ λ q. let same : x ≡ f = cc in
-      sym (ap (λ o. cons_option o (telling_of xs)) (ap told_in same ∙ ap (option_map (told_with f.from f.to)) e))
-  | false ↦ λ q. ap (cons_option (told_in x)) (not_heard is xs f q e)
-] g
+      | true ↦ λ q. let same : x ≡ f = cc in
+          sym (ap (λ o. cons_option o (telling_of xs)) (ap told_in same ∙ ap (option_map (told_with f.from f.to)) e))
+      | false ↦ λ q. ap (cons_option (told_in x)) (not_heard is xs f q e)
+    ] g
 
 pub taken_In : (m z : Told) (telling : List Told) → In z (taken m telling) → In z telling
 taken_In m z telling i = of (is_between m.from m.to) telling i
@@ -213,24 +213,23 @@ module _ (ss : List Server) (k : ℕ) (s t : Server) (at : slice_get ss k ≡ So
   stage_one own x mine h key =
       elim (key.txn.server == k) as
       (λ b. (key.txn.server == k) ≡ b → stage_of_key (slice_set ss k t) key ≡ with_key own x (stage_of_key ss) key) [
-    | true ↦ λ q. stage_is key q ∙ h key q ∙ ap (λ y. cond (same_key key own) x y) (sym (stage_was key q))
-    | false ↦ λ q. stage_still key q ∙ sym (ap (λ b. cond b x (stage_of_key ss key)) (other_server key own k mine q))
-  ] refl
+        | true ↦ λ q. stage_is key q ∙ h key q ∙ ap (λ y. cond (same_key key own) x y) (sym (stage_was key q))
+        | false ↦ λ q. stage_still key q ∙ sym (ap (λ b. cond b x (stage_of_key ss key)) (other_server key own k mine q))
+      ] refl
 
   -- the part of one transaction that it has ready changes
   pub prepared_one : (own : Key) (x : Option Wanted)
       → ((key : Key) → option_map wanted_of (find (is_part key.txn key.part) t.prepared) ≡ with_key own x
-          (λ y. option_map wanted_of (find (is_part y.txn y.part) s.prepared)) key)
+      (λ y. option_map wanted_of (find (is_part y.txn y.part) s.prepared)) key)
       → (j : ℕ) (key : Key) → prepared_in (slice_set ss k t) j key ≡ with_prepared k own x (prepared_in ss) j key
   prepared_one own x h j key =
       elim (j == k) as
       (λ b. (j == k) ≡ b → prepared_in (slice_set ss k t) j key ≡ (cond b (with_key own x (prepared_in ss j)) (prepared_in ss j)) key) [
-    | true ↦ λ q. ap (λ o. option_map wanted_of (find (is_part key.txn key.part) (ready_at o))) (is_at j q) ∙ h key
-        ∙ ap (λ y. cond (same_key key own) x y)
+        | true ↦ λ q. ap (λ o. option_map wanted_of (find (is_part key.txn key.part) (ready_at o))) (is_at j q) ∙ h key
+            ∙ ap (λ y. cond (same_key key own) x y)
             (sym (ap (λ o. option_map wanted_of (find (is_part key.txn key.part) (ready_at o))) (was_at j q)))
-    | false ↦ λ q. ap (λ o. option_map wanted_of (find (is_part key.txn key.part) (ready_at o))) (is_still j q)
-  ] refl
-
+        | false ↦ λ q. ap (λ o. option_map wanted_of (find (is_part key.txn key.part) (ready_at o))) (is_still j q)
+      ] refl
 
 -- ## Desks in which the same stands
 
@@ -454,9 +453,9 @@ told_then ss k s t at key w e stays h = record {
   placed =
       elim (key.txn.server == k) as
       (λ b. (key.txn.server == k) ≡ b → IsPlaced (rows_at (slice_get (slice_set ss k t) key.txn.server)) key.txn w.session e) [
-    | true ↦ λ q. subst (λ o. IsPlaced (rows_at o) key.txn w.session e) (sym (is_at ss k s t at key.txn.server q))
-        (placed_then s.rows t.rows key.txn w.session e (stays q)
+        | true ↦ λ q. subst (λ o. IsPlaced (rows_at o) key.txn w.session e) (sym (is_at ss k s t at key.txn.server q))
+            (placed_then s.rows t.rows key.txn w.session e (stays q)
             (subst (λ o. IsPlaced (rows_at o) key.txn w.session e) (was_at ss k s t at key.txn.server q) h.placed))
-    | false ↦ λ q. subst (λ o. IsPlaced (rows_at o) key.txn w.session e) (sym (is_still ss k s t at key.txn.server q)) h.placed
-  ] refl;
+        | false ↦ λ q. subst (λ o. IsPlaced (rows_at o) key.txn w.session e) (sym (is_still ss k s t at key.txn.server q)) h.placed
+      ] refl;
 }

@@ -37,7 +37,7 @@ goes_back c (Some x) asked heard pairs i one back n j = elim one as (λ _. IsRet
 module _ (skew greatest : ℕ) (given : ℕ → ℕ) (rows : List Row) (by : Session) (c : Client) (asked : List ClientMsg) (heard : List Answer)
     (now d : Settled)
     (f : ExchangeFits skew greatest given rows by c asked heard now d) (pairs : List (List ℕ × LeaseNo))
-        (asks : In (Release pairs) asked) where
+    (asks : In (Release pairs) asked) where
   pub gives_own : (n : LeaseNo) → In n (numbers_in pairs) → (r : Row) → In r rows → r.no ≡ n → r.session ≡ by
   gives_own n i r j e =
       let back = goes_back c c.exchange asked heard pairs asks f.one f.released n i in
@@ -52,4 +52,4 @@ pub release_unlocked : (skew greatest : ℕ) (given : ℕ → ℕ) (rows : List 
 release_unlocked skew greatest given rows by asked heard now d k c s at held still f pairs asks =
     gives_unlocked k c s at held by pairs (asks_other c.lines by asked heard (Release pairs) asks tt f.one)
     (λ n i r j e. gives_own skew greatest given rows by (c.lines by).client asked heard now d f pairs asks n (here_among s pairs n i) r
-        (still r j) e)
+    (still r j) e)

@@ -114,8 +114,14 @@ leaves_led k e s x c q sent taken = record {
 
 -- the rows that are over are dropped
 pub begun_tables : (now : ℕ) (s : Server) → KeepsTables s (begun now s)
-begun_tables now s = record { me = refl; txns = omega arith; leading = refl; ending = refl; prepared = refl;
-    locks = locks_begun (max s.last now) s.skew s.rows }
+begun_tables now s = record {
+  me = refl;
+  txns = omega arith;
+  leading = refl;
+  ending = refl;
+  prepared = refl;
+  locks = locks_begun (max s.last now) s.skew s.rows;
+}
 
 -- ## A question
 
@@ -155,9 +161,9 @@ for_tables by None a = tables_itself a.server
 for_tables by (Some dir) a = elim (is_mine a.server dir) as
     (λ b. KeepsTables a.server (let z : Asking = cond b (fresh_in by dir (is_directory a.server.records dir) a)
     (record a { end = moved a.server dir }) in z).server) [
-  | true ↦ dir_tables by dir (is_directory a.server.records dir) a
-  | false ↦ tables_itself a.server
-]
+      | true ↦ dir_tables by dir (is_directory a.server.records dir) a
+      | false ↦ tables_itself a.server
+    ]
 
 end_tables : (by : Session) (dir : Option (List ℕ)) (e : End) (a : Asking) → KeepsTables a.server (ask_fresh by dir e a).server
 end_tables by dir end.All a = for_tables by dir a
@@ -177,28 +183,46 @@ module _ (k : ℕ) (s : Server) (c : Cluster) where
   pub renew_leaves : (by : Session) (pairs : List (List ℕ × LeaseNo))
       → LeavesLed k (event.FromClient by (Renew pairs)) s (renew_step by pairs s) c
   renew_leaves by pairs = leaves_led k (event.FromClient by (Renew pairs)) s (renew_step by pairs s) c
-      (record { me = refl; txns = omega arith; leading = refl; ending = refl; prepared = refl;
-          locks = locks_renewed (end_of s) (numbers_in (pairs_here s pairs)) s.rows }) refl refl
+      (record {
+        me = refl;
+        txns = omega arith;
+        leading = refl;
+        ending = refl;
+        prepared = refl;
+        locks = locks_renewed (end_of s) (numbers_in (pairs_here s pairs)) s.rows;
+      }) refl refl
 
   -- where no transaction has a row that goes back
   pub release_leaves : (by : Session) (pairs : List (List ℕ × LeaseNo))
       → ((n : LeaseNo) → In n (numbers_in (pairs_here s pairs)) → (r : Row) → In r s.rows → r.no ≡ n → r.lock ≡ None)
       → LeavesLed k (event.FromClient by (Release pairs)) s (release_step by pairs s) c
   release_leaves by pairs free = leaves_led k (event.FromClient by (Release pairs)) s (release_step by pairs s) c
-      (record { me = refl; txns = omega arith; leading = refl; ending = refl; prepared = refl;
-          locks = locks_released (numbers_in (pairs_here s pairs)) s.rows free }) refl refl
+      (record {
+        me = refl;
+        txns = omega arith;
+        leading = refl;
+        ending = refl;
+        prepared = refl;
+        locks = locks_released (numbers_in (pairs_here s pairs)) s.rows free;
+      }) refl refl
 
   -- ## A log
 
   pub ship_leaves : (by : Session) (es : List Entry) → LeavesLed k (event.FromClient by (Ship es)) s (ship_step by es s) c
   ship_leaves by es = elim (list_all (λ (e : Entry). tells_its_effects e.op) es) as
       (λ b. LeavesLed k (event.FromClient by (Ship es)) s (cond b (shipped by (ship_from by es s [])) (strange s)) c) [
-    | true ↦ leaves_led k (event.FromClient by (Ship es)) s (shipped by (ship_from by es s [])) c
-        (subst (KeepsTables s) (sym (ships_leave by es s []))
-            (record { me = refl; txns = omega arith; leading = refl; ending = refl; prepared = refl;
-            locks = locks_itself s.rows })) refl refl
-    | false ↦ leaves_led k (event.FromClient by (Ship es)) s (strange s) c (tables_itself s) refl refl
-  ]
+        | true ↦ leaves_led k (event.FromClient by (Ship es)) s (shipped by (ship_from by es s [])) c
+            (subst (KeepsTables s) (sym (ships_leave by es s []))
+            (record {
+              me = refl;
+              txns = omega arith;
+              leading = refl;
+              ending = refl;
+              prepared = refl;
+              locks = locks_itself s.rows;
+            })) refl refl
+        | false ↦ leaves_led k (event.FromClient by (Ship es)) s (strange s) c (tables_itself s) refl refl
+      ]
 
   -- ## A turn, and leases that are asked back
 
@@ -208,7 +232,7 @@ module _ (k : ℕ) (s : Server) (c : Cluster) where
       let r = reap_from (x ∷ xs) s [] [] in
       leaves_led k event.Turn s (turn_over (x ∷ xs) s) c
       (subst (KeepsTables s) (sym (reaps_leave (x ∷ xs) s [] []))
-          (record { me = refl; txns = omega arith; leading = refl; ending = refl; prepared = refl; locks = locks_itself s.rows }))
+      (record { me = refl; txns = omega arith; leading = refl; ending = refl; prepared = refl; locks = locks_itself s.rows }))
       (ap telling_of (reaps_quiet k r.server.rows r.blockers)) refl
 
   pub turn_leaves : LeavesLed k event.Turn s (turn_step s) c
@@ -223,8 +247,14 @@ module _ (k : ℕ) (s : Server) (c : Cluster) where
   moved_off : (prefix : List ℕ) (to : ℕ) (o : Option MoveError) → move_refusal s.records s.rows s.map s.me prefix to None ≡ o
       → LeavesLed k (event.Move prefix to) s (move_at o prefix to s) c
   moved_off prefix to None e = leaves_led k (event.Move prefix to) s (hands_over prefix to s) c
-      (record { me = refl; txns = omega arith; leading = refl; ending = refl; prepared = refl;
-          locks = locks_left s.records s.rows s.map s.me prefix to e }) refl refl
+      (record {
+        me = refl;
+        txns = omega arith;
+        leading = refl;
+        ending = refl;
+        prepared = refl;
+        locks = locks_left s.records s.rows s.map s.me prefix to e;
+      }) refl refl
   moved_off prefix to (Some why) e = leaves_led k (event.Move prefix to) s (move_at (Some why) prefix to s) c (tables_itself s) refl refl
 
   pub move_leaves : (prefix : List ℕ) (to : ℕ) → LeavesLed k (event.Move prefix to) s (move_step prefix to s) c
@@ -236,11 +266,17 @@ module _ (k : ℕ) (s : Server) (c : Cluster) where
       → LeavesLed k (event.FromPeer from (peer.Parcel p)) s (parcel_at (fits_here p s) p s) c
   parcel_leaves from p there free =
       let taken : comes_words k (event.FromPeer from (peer.Parcel p)) c ≡ telling_of c.in_flight =
-          not_heard (is_between from k) c.in_flight _ there refl in
+      not_heard (is_between from k) c.in_flight _ there refl in
       elim (fits_here p s) as (λ b. LeavesLed k (event.FromPeer from (peer.Parcel p)) s (parcel_at b p s) c) [
         | true ↦ leaves_led k (event.FromPeer from (peer.Parcel p)) s (parcel_at true p s) c
-            (record { me = refl; txns = omega arith; leading = refl; ending = refl; prepared = refl;
-                locks = locks_with_rows p.rows s.rows free }) refl taken
+            (record {
+              me = refl;
+              txns = omega arith;
+              leading = refl;
+              ending = refl;
+              prepared = refl;
+              locks = locks_with_rows p.rows s.rows free;
+            }) refl taken
         | false ↦ leaves_led k (event.FromPeer from (peer.Parcel p)) s (parcel_at false p s) c (tables_itself s) refl taken
       ]
 
@@ -276,19 +312,25 @@ step_leaves k now s c e there none free =
     let q = event_leaves k (begun now s) c e there none free in
     let x : Stepped = step s now e in
     leaves_led k e s x c (tables_then s (begun now s) x.server (begun_tables now s)
-        (record { me = q.me; txns = q.txns; leading = q.leading; ending = q.ending; prepared = q.prepared;
-        locks = q.locks })) q.words q.taken
+    (record {
+      me = q.me;
+      txns = q.txns;
+      leading = q.leading;
+      ending = q.ending;
+      prepared = q.prepared;
+      locks = q.locks;
+    })) q.words q.taken
 
 pub begun_keeps_led : (k now : ℕ) (s : Server) (c : Cluster) → slice_get c.servers k ≡ Some s → LedHolds c → LedHolds (begun_at now k s c)
 begun_keeps_led k now s c at held =
     let x : Stepped = only_noted note.Idle (begun now s) in
     let servers : List Server = slice_set c.servers k (begun now s) in
     let kept : LedHolds (after_step k event.Turn x c) =
-        step_keeps_led k event.Turn s x c at held (leaves_led k event.Turn s x c (begun_tables now s) refl refl) in
+    step_keeps_led k event.Turn s x c at held (leaves_led k event.Turn s x c (begun_tables now s) refl refl) in
     subst (λ xs. LedHolds (record { servers = servers; in_flight = c.in_flight; journal = xs; replied = c.replied; lines = c.lines }))
-        (append-nil c.journal)
+    (append-nil c.journal)
     (subst (λ xs. LedHolds (record { servers = servers; in_flight = xs; journal = c.journal ++ []; replied = c.replied; lines = c.lines }))
-        (append-nil c.in_flight) kept)
+    (append-nil c.in_flight) kept)
 
 -- ## Rows that go back
 
@@ -322,13 +364,13 @@ module _ (k : ℕ) (c : Cluster) (s : Server) (at : slice_get c.servers k ≡ So
             let r = In-map (λ (l : Leading). l.leader.txn) txn (filter (λ (l : Leading). l.leader.session.0 == by.0) (q.0).leading) j in
             let its = held.leading q.0 q.1.0 r.0 (In-filter (λ (l : Leading). l.leader.session.0 == by.0) r.0 (q.0).leading r.1.0) in
             let same : (r.0).leader.session ≡ by =
-                one_session (r.0).leader.session by (passing (λ (l : Leading). l.leader.session.0 == by.0) (q.0).leading r.0 r.1.0) in
+            one_session (r.0).leader.session by (passing (λ (l : Leading). l.leader.session.0 == by.0) (q.0).leading r.0 r.1.0) in
             ((q.0).me, (its.led, subst (λ z. IsLedBy c.lines z (q.0).me its.led) same its.client))
         | inr j ↦
             let r = In-map (λ (x : Ending). x.txn) txn (filter (λ (x : Ending). x.session.0 == by.0) (q.0).ending) j in
             let its = held.ending q.0 q.1.0 r.0 (In-filter (λ (x : Ending). x.session.0 == by.0) r.0 (q.0).ending r.1.0) in
             let same : (r.0).session ≡ by =
-                one_session (r.0).session by (passing (λ (x : Ending). x.session.0 == by.0) (q.0).ending r.0 r.1.0) in
+            one_session (r.0).session by (passing (λ (x : Ending). x.session.0 == by.0) (q.0).ending r.0 r.1.0) in
             ((q.0).me, (its.led, subst (λ z. IsLedBy c.lines z (q.0).me its.led) same its.client))
       ]
 
@@ -344,5 +386,5 @@ module _ (k : ℕ) (c : Cluster) (s : Server) (at : slice_get c.servers k ≡ So
   -- so are those that a session gives back, where they are its own
   pub gives_unlocked : (by : Session) (pairs : List (List ℕ × LeaseNo)) → ((n : ℕ) (d : Led) → IsLedBy c.lines by n d → ⊥)
       → ((n : LeaseNo) → In n (numbers_in (pairs_here s pairs)) → (r : Row) → In r s.rows → r.no ≡ n → r.session ≡ by)
-          → IsUnlocked (event.FromClient by (Release pairs)) s
+      → IsUnlocked (event.FromClient by (Release pairs)) s
   gives_unlocked by pairs none its n i r j e = rows_unlocked_of by none r j (its n i r j e)

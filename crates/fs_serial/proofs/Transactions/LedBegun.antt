@@ -59,9 +59,9 @@ known_place : (i : ℕ) (places : List ℕ) (v : Option (Option Vote)) → stage
     → (to : ℕ) × (slice_get places i ≡ Some to)
 known_place i places v known =
     elim (slice_get places i) as (λ o. slice_get places i ≡ o → stage_by o v ≢ Unknown → (to : ℕ) × (slice_get places i ≡ Some to)) [
-  | None ↦ λ e k. absurd (k refl)
-  | Some to ↦ λ e k. (to, e)
-] refl known
+      | None ↦ λ e k. absurd (k refl)
+      | Some to ↦ λ e k. (to, e)
+    ] refl known
 
 module _ (k : ℕ) (c : Cluster) (s : Server) (at : slice_get c.servers k ≡ Some s) (by : Session) (m : ToLead) (held : LedHolds c)
     (me : s.me ≡ k) (numbered : (j : ℕ) (z : Server) → slice_get c.servers j ≡ Some z → z.me ≡ j)
@@ -201,7 +201,7 @@ module _ (k : ℕ) (c : Cluster) (s : Server) (at : slice_get c.servers k ≡ So
         by_txn true e =
             stage_is c.servers k s t at y (its_server y e)
             ∙ ap (λ o. stage_in y.part o (ending_of y.txn s.ending))
-                (ap (λ n. leading_of n (with_leading l s.leading)) (txn_is y.txn txn e) ∙ leading_set l s.leading)
+            (ap (λ n. leading_of n (with_leading l s.leading)) (txn_is y.txn txn e) ∙ leading_set l s.leading)
         by_txn false e = by_server e (y.txn.server == k) refl
 
     -- ## Files
@@ -230,7 +230,7 @@ module _ (k : ℕ) (c : Cluster) (s : Server) (at : slice_get c.servers k ≡ So
               let v = new_part a e p in
               let w = new_part b f q in
               ap₂ (λ (x y : Wanted). same x.part.file y.part.file) (parts_new a v.0 e v.1) (parts_new b w.0 f w.1)
-                  ∙ parts_apart m a.part b.part v.0 w.0 two v.1 w.1
+              ∙ parts_apart m a.part b.part v.0 w.0 two v.1 w.1
           by_txn false e =
               let f : same_txn b.txn txn ≡ false = ap (λ n. same_txn n txn) (sym one) ∙ e in
               ap₂ (λ (x y : Wanted). same x.part.file y.part.file) (parts_old a e) (parts_old b f)
@@ -251,15 +251,15 @@ module _ (k : ℕ) (c : Cluster) (s : Server) (at : slice_get c.servers k ≡ So
     said_still : (y : Agreed) → In y (said_at s ++ said_by s.me l) → In y (said_at t)
     said_still y i = In-both y (said_at s) (said_by s.me l) (In y (said_at t))
         (λ j. In-both y (map agreed_of s.prepared) (flat_map (said_by s.me) s.leading) (In y (said_at t))
-            (λ r. In-front y (map agreed_of s.prepared) (flat_map (said_by s.me) (with_leading l s.leading)) r)
-            (λ r. behind
-                (elim (said_before s.me l l s.leading y
-                (λ z n e. let wrong : true ≡ false = sym e ∙ new_leading s here z n in absurd (cc wrong)) r)
-                as (λ _. In y (flat_map (said_by s.me) (with_leading l s.leading))) [
-              | inl n ↦ said_new s.me l s.leading y n
-              | inr n ↦ n
-            ]))
-            j)
+        (λ r. In-front y (map agreed_of s.prepared) (flat_map (said_by s.me) (with_leading l s.leading)) r)
+        (λ r. behind
+        (elim (said_before s.me l l s.leading y
+        (λ z n e. let wrong : true ≡ false = sym e ∙ new_leading s here z n in absurd (cc wrong)) r)
+        as (λ _. In y (flat_map (said_by s.me) (with_leading l s.leading))) [
+          | inl n ↦ said_new s.me l s.leading y n
+          | inr n ↦ n
+        ]))
+        j)
         (λ j. behind (said_new s.me l s.leading y j))
         i
       where
@@ -279,7 +279,7 @@ module _ (k : ℕ) (c : Cluster) (s : Server) (at : slice_get c.servers k ≡ So
           In-both (word_to o to (Decide es)) (telling_of c.in_flight) (telling_of (in_flight_from k send))
           (In (word_to o to (Decide es)) (telling_of c.in_flight))
           (λ j. j) (λ j. absurd (undecided o to es j))
-              (subst (In (word_to o to (Decide es))) (telling_append c.in_flight (in_flight_from k send)) i)
+          (subst (In (word_to o to (Decide es))) (telling_append c.in_flight (in_flight_from k send)) i)
 
       not_its : (o : Key) (to : ℕ) (es : List Effect) → In (word_to o to (Decide es)) (telling_of c.in_flight) → same_txn o.txn txn ≡ false
       not_its o to es i = elim (same_txn o.txn txn) as (λ b. same_txn o.txn txn ≡ b → b ≡ false) [
@@ -330,7 +330,7 @@ module _ (k : ℕ) (c : Cluster) (s : Server) (at : slice_get c.servers k ≡ So
             | inr q ↦
                 let h = held.leading s here x q.0 in
                 leading_then lines s t parts refl (omega arith) x (leading_other l x.leader.txn s.leading q.1 ∙ h.one) h.only
-                    (leading_still s x q.1 h)
+                (leading_still s x q.1 h)
           ]) z i
 
   -- ## All parts
@@ -361,8 +361,11 @@ module _ (k : ℕ) (c : Cluster) (s : Server) (at : slice_get c.servers k ≡ So
 
   locked : LocksSoFar txn by m s.me (said_at s) (kept_at s) new round
   locked = rounds_locked txn by m s.me (said_at s) (kept_at s) new (parts_in m) 0 (first_round s) all_parts refl refl refl
-      (record { ordered = ordered; locks = subst (λ ys. LocksHold s.rows ys (kept_at s)) (sym (append-nil (said_at s)))
-          (held.locks s here) })
+      (record {
+        ordered = ordered;
+        locks = subst (λ ys. LocksHold s.rows ys (kept_at s)) (sym (append-nil (said_at s)))
+            (held.locks s here);
+      })
 
   own_locks : (lines : Session → Lines) (clients : (y : Session) → (lines y).client ≡ (c.lines y).client)
       → LocksHold server.rows (said_at (t round.votes round.at server.rows lines clients)) (kept_at s)
@@ -380,9 +383,9 @@ module _ (k : ℕ) (c : Cluster) (s : Server) (at : slice_get c.servers k ≡ So
   same_clients : (y : Session) → (after.lines y).client ≡ (c.lines y).client
   same_clients y = ap (λ (ls : Session → Lines). (ls y).client) asked_lines
       ∙ elim (by.0 == y.0) as
-          (λ b. (by.0 == y.0) ≡ b →
-          (cond b (let z : Lines = record (c.lines by) { up = without_first (is_with k) (c.lines by).up } in z) (c.lines y)).client
-          ≡ (c.lines y).client) [
+      (λ b. (by.0 == y.0) ≡ b →
+      (cond b (let z : Lines = record (c.lines by) { up = without_first (is_with k) (c.lines by).up } in z) (c.lines y)).client
+      ≡ (c.lines y).client) [
         | true ↦ λ e. ap (λ z. (c.lines z).client) (one_session by y e)
         | false ↦ λ e. refl
       ] refl

@@ -90,17 +90,17 @@ can_end o h = absurd (cc h)
 agreed_fits : (l : Leader) (d : Led) → l.op ≡ d.entry.op → is_led l.op ≡ true → end_fits (Some d) (end_of_decision (agreed l None)) ≡ true
 agreed_fits l d same h = elim (needs_path l.mode l.op) as
     (λ b. end_fits (Some d) (end_of_decision (cond b (again why.Changed) (commit l (reply_of l.op)))) ≡ true) [
-  | true ↦ refl
-  | false ↦ ap (λ o. can_end_with o (reply_of l.op)) (sym same) ∙ can_end l.op h
-]
+      | true ↦ refl
+      | false ↦ ap (λ o. can_end_with o (reply_of l.op)) (sym same) ∙ can_end l.op h
+    ]
 
 decision_fits : (l : Leader) (d : Led) → l.op ≡ d.entry.op → is_led l.op ≡ true
     → end_fits (Some d) (end_of_decision (decision l None)) ≡ true
 decision_fits l d same h = elim (first_end l.votes) as
     (λ o. first_end l.votes ≡ o → end_fits (Some d) (end_of_decision (unless_ended o (agreed l None))) ≡ true) [
-  | None ↦ λ e. agreed_fits l d same h
-  | Some f ↦ λ e. first_fits d l.votes f e
-] refl
+      | None ↦ λ e. agreed_fits l d same h
+      | Some f ↦ λ e. first_fits d l.votes f e
+    ] refl
 
 -- the rows that are kept are those of a rename
 keeps_end : (d : Decision) → keeps_rows d ≡ true → keeps_till_done (end_of_decision d) ≡ true
@@ -220,10 +220,10 @@ module _ (k : ℕ) (c : Cluster) (s : Server) (at : slice_get c.servers k ≡ So
   stands : (key : Key) (st : Stage) (words : List Told) → stage_of_key after.servers key ≡ st
       → told_of key (telling_of after.in_flight) ≡ words → Stands key st words
       → IsStage key (held.parts key) (stage_of_key after.servers key) (λ j. prepared_in after.servers j key)
-          (told_of key (telling_of after.in_flight))
+      (told_of key (telling_of after.in_flight))
   stands key st words e f h =
       let same : (λ j. prepared_in c.servers j key) ≡ (λ j. prepared_in after.servers j key) =
-          fun_ext (λ j. sym (prepared_set c.servers k s y at refl j key)) in
+      fun_ext (λ j. sym (prepared_set c.servers k s y at refl j key)) in
       subst (λ z. IsStage key (held.parts key) z (λ j. prepared_in after.servers j key) (told_of key (telling_of after.in_flight))) (sym e)
       (subst (λ z. IsStage key (held.parts key) st (λ j. prepared_in after.servers j key) z) (sym f)
       (subst (λ z. IsStage key (held.parts key) st z words) same h))
@@ -248,36 +248,40 @@ module _ (k : ℕ) (c : Cluster) (s : Server) (at : slice_get c.servers k ≡ So
   word_is : (key : Key) (p : ℕ) → same_txn t key.txn ≡ true
       → decision_word k t d (key.part, p) ≡ word_to key p (Decide (told_effects d key.part))
   word_is key p e =
-      ap₂ (λ (from : ℕ) (u : TxnNo). let m : Told = record { from = from; to = p; key = key_of u key.part;
-          word = Decide (told_effects d key.part) } in m) (sym me ∙ server_is key e) (txn_is t key.txn e)
+      ap₂ (λ (from : ℕ) (u : TxnNo). let m : Told = record {
+        from = from;
+        to = p;
+        key = key_of u key.part;
+        word = Decide (told_effects d key.part);
+      } in m) (sym me ∙ server_is key e) (txn_is t key.txn e)
 
   -- it said Yes elsewhere, and is told
   tell : (key : Key) → same_txn t key.txn ≡ true → (p : ℕ) → of_number key.part out ≡ (key.part, p) ∷ []
       → slice_get l.leader.votes key.part ≡ Some (Some Yes) → slice_get l.at key.part ≡ Some p → (p == s.me) ≡ false
       → IsStage key (held.parts key) (stage_of_key after.servers key) (λ j. prepared_in after.servers j key)
-          (told_of key (telling_of after.in_flight))
+      (told_of key (telling_of after.in_flight))
   tell key e p q v a f =
       let es : List Effect = told_effects d key.part in
       let counted : stage_of_key c.servers key ≡ Counted p Yes = stage_was key e ∙ ap₂ stage_by a v in
       let away : (p == key.txn.server) ≡ false = ap (λ j. p == j) (sym (server_is key e)) ∙ f in
       let words : told_of key (telling_of c.in_flight ++ word_to key p (Decide es) ∷ []) ≡ told_of key
-          (telling_of c.in_flight) ++ word_to key p (Decide es) ∷ [] =
-          told_push key (word_to key p (Decide es)) (telling_of c.in_flight) refl in
+      (telling_of c.in_flight) ++ word_to key p (Decide es) ∷ [] =
+      told_push key (word_to key p (Decide es)) (telling_of c.in_flight) refl in
       let now : told_of key (telling_of after.in_flight) ≡ told_of key (telling_of c.in_flight) ++ word_to key p (Decide es) ∷ [] =
-          told_now key ∙ ap (λ ws. told_of key (telling_of c.in_flight) ++ ws)
-              (words_of k t d key out e ∙ ap (map (decision_word k t d)) q ∙ ap (λ w. w ∷ []) (word_is key p e)) in
+      told_now key ∙ ap (λ ws. told_of key (telling_of c.in_flight) ++ ws)
+      (words_of k t d key out e ∙ ap (map (decision_word k t d)) q ∙ ap (λ w. w ∷ []) (word_is key p e)) in
       stands key (Awaited p) (told_of key (telling_of c.in_flight) ++ word_to key p (Decide es) ∷ [])
-          (stage_then key e ∙ awaited_first key.part out ∙ ap first_awaited q) now
+      (stage_then key e ∙ awaited_first key.part out ∙ ap first_awaited q) now
       (subst (λ z. Stands key z (told_of key (telling_of c.in_flight) ++ word_to key p (Decide es) ∷ []))
-          (ap (λ b. cond b (Awaited p) (stage_of_key c.servers key)) (key_itself key))
+      (ap (λ b. cond b (Awaited p) (stage_of_key c.servers key)) (key_itself key))
       (subst (λ z. Stands key (with_key key (Awaited p) (stage_of_key c.servers) key) z) words
-          (tells (desks_of held.parts c) key p es held.stages counted away key)))
+      (tells (desks_of held.parts c) key p es held.stages counted away key)))
 
   -- it is over at once
   drop : (key : Key) → same_txn t key.txn ≡ true → of_number key.part out ≡ []
       → ((p : ℕ) → slice_get l.leader.votes key.part ≡ Some (Some Yes) → slice_get l.at key.part ≡ Some p → (p == s.me) ≡ true)
       → IsStage key (held.parts key) (stage_of_key after.servers key) (λ j. prepared_in after.servers j key)
-          (told_of key (telling_of after.in_flight))
+      (told_of key (telling_of after.in_flight))
   drop key e q f =
       stands key Unknown (told_of key (telling_of c.in_flight)) (stage_then key e ∙ awaited_first key.part out ∙ ap first_awaited q)
       (none_new key (words_of k t d key out e ∙ ap (map (decision_word k t d)) q))
@@ -285,7 +289,7 @@ module _ (k : ℕ) (c : Cluster) (s : Server) (at : slice_get c.servers k ≡ So
         | no_part u ↦ at_stage key Unknown u
         | counted p v u g a ↦
             subst (λ z. Stands key z (told_of key (telling_of c.in_flight)))
-                (ap (λ b. cond b Unknown (stage_of_key c.servers key)) (key_itself key))
+            (ap (λ b. cond b Unknown (stage_of_key c.servers key)) (key_itself key))
             (drops (desks_of held.parts c) key p v held.stages u
             (λ yes. ap (λ j. p == j) (sym (server_is key e)) ∙ f p (g ∙ ap Some (yes_said (Some v) yes)) a) key)
       ])
@@ -295,7 +299,7 @@ module _ (k : ℕ) (c : Cluster) (s : Server) (at : slice_get c.servers k ≡ So
     where
       at_number : same_txn t key.txn ≡ true → IsTold s.me key.part out (slice_get l.leader.votes key.part) (slice_get l.at key.part)
           → IsStage key (held.parts key) (stage_of_key after.servers key) (λ j. prepared_in after.servers j key)
-              (told_of key (telling_of after.in_flight))
+          (told_of key (telling_of after.in_flight))
       at_number e (told p q v a f) = tell key e p q v a f
       at_number e (untold q f) = drop key e q f
 
@@ -339,8 +343,8 @@ module _ (k : ℕ) (c : Cluster) (s : Server) (at : slice_get c.servers k ≡ So
         | Some z ↦ λ e. absurd (cc e)
       ]
           (sym (ap (λ o. option_map wanted_of (find (is_part t r.number) (ready_at o))) (was_at c.servers k s y at t.server mine))
-              ∙ not_at_home key (held.parts key) (stage_of_key c.servers key) (λ j. prepared_in c.servers j key)
-              (told_of key (telling_of c.in_flight)) (held.stages key))
+          ∙ not_at_home key (held.parts key) (stage_of_key c.servers key) (λ j. prepared_in c.servers j key)
+          (told_of key (telling_of c.in_flight)) (held.stages key))
 
       off_if : (b : Bool) → same_txn r.txn t ≡ b → b ≡ false
       off_if true e = sym (joined _ _ e (itself r.number)) ∙ none_pass (is_part t r.number) s.prepared none r i
@@ -351,15 +355,15 @@ module _ (k : ℕ) (c : Cluster) (s : Server) (at : slice_get c.servers k ≡ So
       filter-append (λ (z : Agreed). not (same_txn z.key.txn t)) (map agreed_of s.prepared) (flat_map (said_by s.me) s.leading)
       ∙ ap₂ (λ a b. a ++ b)
       (all_stay (λ (z : Agreed). not (same_txn z.key.txn t)) (map agreed_of s.prepared)
-          (λ z i. let q = In-map agreed_of z s.prepared i in ap (λ (a : Agreed). not (same_txn a.key.txn t)) q.1.1
-          ∙ ap not (none_ready q.0 q.1.0)))
+      (λ z i. let q = In-map agreed_of z s.prepared i in ap (λ (a : Agreed). not (same_txn a.key.txn t)) q.1.1
+      ∙ ap not (none_ready q.0 q.1.0)))
       (sym (said_left s.me t s.leading))
 
   -- each part of the transaction here is its session's
   one_session : (z : Agreed) → In z (said_at s) → z.key.txn ≡ t → z.wanted.session ≡ by
   one_session z i e =
       let its : session_of c.servers t ≡ Some by =
-          ap (λ o. session_by o (ended_in c.servers t)) (ap (λ o. leading_of t (leading_at o)) (was_at c.servers k s y at t.server mine) ∙ led) in
+      ap (λ o. session_by o (ended_in c.servers t)) (ap (λ o. leading_of t (leading_at o)) (was_at c.servers k s y at t.server mine) ∙ led) in
       let same : Some z.wanted.session ≡ Some by = sym (said_session c held s k at me z i) ∙ ap (session_of c.servers) e ∙ its in
       cc
 
@@ -373,9 +377,9 @@ module _ (k : ℕ) (c : Cluster) (s : Server) (at : slice_get c.servers k ≡ So
   kept_still z i =
       let q = in_kept s.ending z i in
       let same : z ≡ (let a : Kept = record { txn = (q.0).txn; session = (q.0).session } in a) =
-          ap₂ (λ (u : TxnNo) (v : Session). let a : Kept = record { txn = u; session = v } in a) q.1.1.1.0 q.1.1.1.1 in
+      ap₂ (λ (u : TxnNo) (v : Session). let a : Kept = record { txn = u; session = v } in a) q.1.1.1.0 q.1.1.1.1 in
       subst (λ a. In a (kept_at y)) (sym same)
-          (kept_there q.0 y.ending (ending_kept ended s.ending q.0 q.1.0 (no_ending q.0 q.1.0)) q.1.1.0)
+      (kept_there q.0 y.ending (ending_kept ended s.ending q.0 q.1.0 (no_ending q.0 q.1.0)) q.1.1.0)
 
   committed : LocksHold s.rows (said_at y) (its_commit ∷ kept_at s)
   committed = subst (λ z. LocksHold s.rows z (its_commit ∷ kept_at s)) said_then
@@ -386,7 +390,7 @@ module _ (k : ℕ) (c : Cluster) (s : Server) (at : slice_get c.servers k ≡ So
   kept_locks e =
       let q = both (keeps_rows d) (is_some (slice_get out 0)) e in
       locks_alike s.rows (said_at y) (said_at y) (its_commit ∷ kept_at s) (kept_at y) (λ z i. i) (λ z i. i)
-          (λ z i. elim i as (λ _. In z (kept_at y)) [
+      (λ z i. elim i as (λ _. In z (kept_at y)) [
         | inl same ↦ subst (λ a. In a (kept_at y)) (sym same)
             (kept_there ended y.ending (ending_there ended s.ending q.1) (keeps_end d q.0))
         | inr j ↦ kept_still z j
@@ -400,11 +404,11 @@ module _ (k : ℕ) (c : Cluster) (s : Server) (at : slice_get c.servers k ≡ So
   freed_locks : LocksHold (rows_unlocked t s.rows) (said_at y) (kept_at y)
   freed_locks =
       locks_alike (rows_unlocked t s.rows) (said_at y) (said_at y) (without_kept t (its_commit ∷ kept_at s)) (kept_at y) (λ z i. i)
-          (λ z i. i)
+      (λ z i. i)
       (λ z i. elim (In-filter (λ (a : Kept). not (same_txn a.txn t)) z (its_commit ∷ kept_at s) i) as (λ _. In z (kept_at y)) [
         | inl same ↦
             let wrong : true ≡ false = sym (passing (λ (a : Kept). not (same_txn a.txn t)) (its_commit ∷ kept_at s) z i)
-                ∙ ap (λ (a : Kept). not (same_txn a.txn t)) same ∙ ap not (txn_itself t) in
+            ∙ ap (λ (a : Kept). not (same_txn a.txn t)) same ∙ ap not (txn_itself t) in
             absurd (cc wrong)
         | inr j ↦ kept_still z j
       ])
@@ -413,9 +417,9 @@ module _ (k : ℕ) (c : Cluster) (s : Server) (at : slice_get c.servers k ≡ So
   pub locks_concluded : LocksHold y.rows (said_at y) (kept_at y)
   locks_concluded = elim (keeps_for d out) as
       (λ b. keeps_for d out ≡ b → LocksHold (cond b s.rows (rows_unlocked t s.rows)) (said_at y) (kept_at y)) [
-    | true ↦ kept_locks
-    | false ↦ λ e. freed_locks
-  ] refl
+        | true ↦ kept_locks
+        | false ↦ λ e. freed_locks
+      ] refl
 
   -- ## Its tables
 
@@ -446,7 +450,7 @@ module _ (k : ℕ) (c : Cluster) (s : Server) (at : slice_get c.servers k ≡ So
       (few : (o : Key) (to : ℕ) (effects : List Effect) → In (word_to o to (Decide effects)) (telling_of after.in_flight)
       → length effects ≤ 1)
       (told_new : (n : ℕ × ℕ) → In n out → (e : Effect) → In e (told_effects d n.0)
-          → IsToldOf after.servers (key_of t n.0) (held.parts (key_of t n.0)) e) where
+      → IsToldOf after.servers (key_of t n.0) (held.parts (key_of t n.0)) e) where
     ending_here : (m : Ending) → In m y.ending → IsEnded c.lines y held.parts m
     ending_here m i = elim (in_with_ending ended s.ending m i) as (λ _. IsEnded c.lines y held.parts m) [
       | inl q ↦ subst (IsEnded c.lines y held.parts) (sym q.0) (record {
@@ -463,7 +467,7 @@ module _ (k : ℕ) (c : Cluster) (s : Server) (at : slice_get c.servers k ≡ So
       | inr q ↦
           let z = held.ending s here m q.0 in
           ended_then c.lines s y held.parts refl (omega arith) m (ending_other ended m.txn s.ending q.1 ∙ z.one)
-              (leading_left m.txn t s.leading q.1 ∙ z.only) z
+          (leading_left m.txn t s.leading q.1 ∙ z.only) z
     ]
 
     -- a row that another transaction locks stays
@@ -490,15 +494,15 @@ module _ (k : ℕ) (c : Cluster) (s : Server) (at : slice_get c.servers k ≡ So
     told_all key to effects i e j =
         elim (In-append (word_to key to (Decide effects)) (telling_of c.in_flight) (map (decision_word k t d) out)
         (subst (In (word_to key to (Decide effects))) telling_after i)) as (λ _. IsToldOf after.servers key (held.parts key) e) [
-      | inl old ↦ told_then c.servers k s y at key (held.parts key) e
-          (λ q. rows_stay key.txn (txn_apart t key.txn (old_apart key to effects old))) (held.told key to effects old e j)
-      | inr new ↦
-          let q = In-map (decision_word k t d) (word_to key to (Decide effects)) out new in
-          let word : Decide effects ≡ Decide (told_effects d (q.0).0) = ap (λ (m : Told). m.word) q.1.1 in
-          let is : effects ≡ told_effects d (q.0).0 = cc in
-          subst (λ z. IsToldOf after.servers z (held.parts z) e) (sym (ap (λ (m : Told). m.key) q.1.1))
+          | inl old ↦ told_then c.servers k s y at key (held.parts key) e
+              (λ q. rows_stay key.txn (txn_apart t key.txn (old_apart key to effects old))) (held.told key to effects old e j)
+          | inr new ↦
+              let q = In-map (decision_word k t d) (word_to key to (Decide effects)) out new in
+              let word : Decide effects ≡ Decide (told_effects d (q.0).0) = ap (λ (m : Told). m.word) q.1.1 in
+              let is : effects ≡ told_effects d (q.0).0 = cc in
+              subst (λ z. IsToldOf after.servers z (held.parts z) e) (sym (ap (λ (m : Told). m.key) q.1.1))
               (told_new q.0 q.1.0 e (subst (In e) is j))
-    ]
+        ]
 
     pub led_concluded : LedHolds after
     led_concluded = record {

@@ -140,7 +140,7 @@ module _ (k from : ℕ) (c : Cluster) (s : Server) (at : slice_get c.servers k �
   pub still_told : (fs : List InFlight) (ws : List Told) → telling_of fs ≡ taken word (telling_of c.in_flight) ++ ws
       → ((w : Told) → In w ws → (es : List Effect) → w.word ≡ Decide es → ⊥)
       → (o : Key) (to : ℕ) (es : List Effect) → In (word_to o to (Decide es)) (telling_of fs)
-          → In (word_to o to (Decide es)) (telling_of c.in_flight)
+      → In (word_to o to (Decide es)) (telling_of c.in_flight)
   still_told fs ws is none o to es i =
       In-both (word_to o to (Decide es)) (taken word (telling_of c.in_flight)) ws (In (word_to o to (Decide es)) (telling_of c.in_flight))
       (taken_In word (word_to o to (Decide es)) (telling_of c.in_flight))
@@ -191,8 +191,8 @@ module _ (k from : ℕ) (c : Cluster) (s : Server) (at : slice_get c.servers k �
     pub ending_after : (z : Server) → In z servers → (x : Ending) → In x z.ending → IsEnded c.lines z held.parts x
     ending_after z i = each_after (λ z. (x : Ending) → In x z.ending → IsEnded c.lines z held.parts x) c.servers k t held.ending
         (λ x j. let was = held.ending s here x j in ended_then c.lines s t held.parts refl (omega arith) x was.one
-            (elim (same_txn x.txn new.leader.txn) as
-            (λ b. same_txn x.txn new.leader.txn ≡ b → leading_of x.txn (with_leading new s.leading) ≡ None) [
+        (elim (same_txn x.txn new.leader.txn) as
+        (λ b. same_txn x.txn new.leader.txn ≡ b → leading_of x.txn (with_leading new s.leading) ≡ None) [
           | true ↦ λ e.
               let same : x.txn ≡ m.txn = txn_is x.txn l.leader.txn e ∙ its in
               let wrong : None ≡ Some l = sym was.only ∙ ap (λ n. leading_of n s.leading) same ∙ led in
@@ -223,7 +223,7 @@ module _ (k from : ℕ) (c : Cluster) (s : Server) (at : slice_get c.servers k �
         by_txn y true e =
             let same : y.txn ≡ m.txn = txn_is y.txn m.txn e in
             let found_new : leading_of y.txn (with_leading new s.leading) ≡ Some new =
-                ap (λ n. leading_of n (with_leading new s.leading)) (same ∙ sym its) ∙ leading_set new s.leading in
+            ap (λ n. leading_of n (with_leading new s.leading)) (same ∙ sym its) ∙ leading_set new s.leading in
             ap (λ o. stage_in y.part o (ending_of y.txn s.ending)) found_new
             ∙ by_part y same (y.part == m.number) refl
             ∙ sym (ap (λ b. cond (b && (y.part == m.number)) x (stage_at c.servers k s t at s y)) e)
@@ -236,9 +236,9 @@ module _ (k from : ℕ) (c : Cluster) (s : Server) (at : slice_get c.servers k �
     files_after x is =
         files_still held.parts (stage_of_key c.servers) (stage_of_key servers)
         (λ y known gone. elim (same_key y key) as (λ b. same_key y key ≡ b → ⊥) [
-      | true ↦ λ e. let wrong : Unknown ≡ Asked from = sym gone ∙ ap (stage_of_key c.servers) (key_is y key e) ∙ stage in absurd (cc wrong)
-      | false ↦ λ e. known (stages_after x is y ∙ ap (λ b. cond b x (stage_of_key c.servers y)) e ∙ gone)
-    ] refl) held.files
+          | true ↦ λ e. let wrong : Unknown ≡ Asked from = sym gone ∙ ap (stage_of_key c.servers) (key_is y key e) ∙ stage in absurd (cc wrong)
+          | false ↦ λ e. known (stages_after x is y ∙ ap (λ b. cond b x (stage_of_key c.servers y)) e ∙ gone)
+        ] refl) held.files
 
     -- ## Who said Yes here
 
@@ -342,8 +342,13 @@ module _ (k from : ℕ) (c : Cluster) (s : Server) (at : slice_get c.servers k �
     pub led_counted : LedHolds (then_of k from c (peer.Vote m) (waits n (with_vote m.number m.vote l) [] s))
     led_counted =
         together (with_number m.vote) l.at counted_alone s.rows n [] [] refl (stage_of from m.vote) counted_stage heard_desks
-        (record { parts = λ y. refl; stages = λ y. refl; prepared = λ j y. refl; telling =
-            append-nil (taken word (telling_of c.in_flight)) })
+        (record {
+          parts = λ y. refl;
+          stages = λ y. refl;
+          prepared = λ j y. refl;
+          telling =
+              append-nil (taken word (telling_of c.in_flight));
+        })
         stages_voted refl (λ w i. absurd i) (λ r i u e. i)
         (locks_alike s.rows (said_at s) (said_at counted) (kept_at s) (kept_at counted) said_before_it
         (said_still (with_number m.vote) l.at counted_alone s.rows) (λ z i. i) (held.locks s here))
@@ -374,7 +379,7 @@ module _ (k from : ℕ) (c : Cluster) (s : Server) (at : slice_get c.servers k �
     set_twice : (x : Stage) (y : Key) → with_key key x (stage_of_key c.servers) y ≡ with_key key x heard_desks.stages y
     set_twice x y =
         elim (same_key y key) as
-            (λ b. cond b x (stage_of_key c.servers y) ≡ cond b x (cond b (stage_of from m.vote) (stage_of_key c.servers y))) [
+        (λ b. cond b x (stage_of_key c.servers y) ≡ cond b x (cond b (stage_of from m.vote) (stage_of_key c.servers y))) [
           | true ↦ refl
           | false ↦ refl
         ]
@@ -507,7 +512,7 @@ module _ (k from : ℕ) (c : Cluster) (s : Server) (at : slice_get c.servers k �
           (λ z i. i)
           (yes_locks s.rows (said_at s) (kept_at s) its_part (held.locks s here) ordered (yes_stands s l.leader.session p is_here says)
           (λ r i its_row u e. alone u
-              (subst (λ by. IsOf (said_at s) u by ⊎ IsKept (kept_at s) u by) its_row ((held.locks s here).used r u i e))))
+          (subst (λ by. IsOf (said_at s) u by ⊎ IsKept (kept_at s) u by) its_row ((held.locks s here).used r u i e))))
 
       locks_home : (v : Vote) (counts : is_moved v ≡ false) → vote_here s l.leader.session p ≡ v
           → LocksHold (home_rows v) (said_at (voted v counts)) (kept_at s)

@@ -54,8 +54,8 @@ waits_front key [] ys h = ap (waits_here key.txn) (none_of_part key ys h) ∙ no
 waits_front key (x ∷ xs) ys h =
     let rest : waits_here key.txn (without_part key (xs ++ ys)) ≡ waits_here key.txn (without_part key xs) = waits_front key xs ys h in
     elim (not (same_key x.key key)) as
-        (λ b. waits_here key.txn (cond b (x ∷ without_part key (xs ++ ys)) (without_part key (xs ++ ys)))
-        ≡ waits_here key.txn (cond b (x ∷ without_part key xs) (without_part key xs))) [
+    (λ b. waits_here key.txn (cond b (x ∷ without_part key (xs ++ ys)) (without_part key (xs ++ ys)))
+    ≡ waits_here key.txn (cond b (x ∷ without_part key xs) (without_part key xs))) [
       | true ↦ ap (λ b. same_txn x.key.txn key.txn || b) rest
       | false ↦ rest
     ]
@@ -118,11 +118,11 @@ module _ (k from : ℕ) (c : Cluster) (s : Server) (at : slice_get c.servers k �
       elim (same_key other key) as
       (λ b. same_key other key ≡ b → option_map wanted_of (find (is_part other.txn other.part) (without_prepared m.txn m.number s.prepared))
       ≡ cond b None (option_map wanted_of (find (is_part other.txn other.part) s.prepared))) [
-    | true ↦
-        λ t. ap (λ (x : Key). option_map wanted_of (find (is_part x.txn x.part) (without_prepared m.txn m.number s.prepared)))
-        (key_is other key t) ∙ ap (option_map wanted_of) (part_gone key s.prepared)
-    | false ↦ λ t. ap (option_map wanted_of) (part_left key other s.prepared t)
-  ] refl
+        | true ↦
+            λ t. ap (λ (x : Key). option_map wanted_of (find (is_part x.txn x.part) (without_prepared m.txn m.number s.prepared)))
+            (key_is other key t) ∙ ap (option_map wanted_of) (part_gone key s.prepared)
+        | false ↦ λ t. ap (option_map wanted_of) (part_left key other s.prepared t)
+      ] refl
 
   abbrev told_by : ℕ → List Told
   told_by n =
@@ -138,7 +138,7 @@ module _ (k from : ℕ) (c : Cluster) (s : Server) (at : slice_get c.servers k �
   stages_then : StagesHold (desks_of held.parts then)
   stages_then =
       let is : word ≡ word_to key k (Decide m.effects) =
-          ap (λ n. let w : Told = record { from = n; to = k; key = key; word = Decide m.effects } in w) from_leader in
+      ap (λ n. let w : Told = record { from = n; to = k; key = key; word = Decide m.effects } in w) from_leader in
       let first : IsFirst (word_to key k (Decide m.effects)) d.telling = subst (λ w. IsFirst w d.telling) is hears.first in
       stand_alike (after_decide key k m.effects d) (desks_of held.parts then) (record {
         parts = λ other. refl;
@@ -171,12 +171,12 @@ module _ (k from : ℕ) (c : Cluster) (s : Server) (at : slice_get c.servers k �
       filter-append (λ (z : Agreed). not (same_key z.key key)) (map agreed_of s.prepared) (flat_map (said_by s.me) s.leading)
       ∙ ap (λ xs. xs ++ without_part key (flat_map (said_by s.me) s.leading)) (sym (left_so m.txn m.number s.prepared))
       ∙ ap (λ xs. map agreed_of (without_prepared m.txn m.number s.prepared) ++ xs)
-          (none_of_part key (flat_map (said_by s.me) s.leading) own_others)
+      (none_of_part key (flat_map (said_by s.me) s.leading) own_others)
 
   rows_then : rows_decided key s.rows (said_at s) ≡ y.rows
   rows_then =
       ap (λ b. cond b s.rows (rows_unlocked m.txn s.rows))
-          (waits_front key (map agreed_of s.prepared) (flat_map (said_by s.me) s.leading) own_others)
+      (waits_front key (map agreed_of s.prepared) (flat_map (said_by s.me) s.leading) own_others)
       ∙ sym (rows_so m.txn m.number s.prepared s.rows)
 
   pub locks_applied : LocksHold y.rows (said_at y) (kept_at y)
@@ -189,9 +189,9 @@ module _ (k from : ℕ) (c : Cluster) (s : Server) (at : slice_get c.servers k �
   rows_stay : (other : Key) → (other.txn.server == k) ≡ true → (r : Row) → In r s.rows → r.lock ≡ Some other.txn → In r y.rows
   rows_stay other mine r i e =
       elim (is_awaited m.txn (without_prepared m.txn m.number s.prepared)) as (λ b. In r (cond b s.rows (rows_unlocked m.txn s.rows))) [
-    | true ↦ i
-    | false ↦ unlocked_stay m.txn s.rows r other.txn i e (not_its other.txn m.txn k (eqb-true other.txn.server k mine) elsewhere)
-  ]
+        | true ↦ i
+        | false ↦ unlocked_stay m.txn s.rows r other.txn i e (not_its other.txn m.txn k (eqb-true other.txn.server k mine) elsewhere)
+      ]
 
   -- ## All
 

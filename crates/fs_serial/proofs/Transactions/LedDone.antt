@@ -53,7 +53,7 @@ kept_still x xs z i off =
     let q = in_kept xs z i in
     let apart : same_txn (q.0).txn x.txn ≡ false = ap (λ t. same_txn t x.txn) (sym q.1.1.1.0) ∙ off in
     kept_as (q.0).txn (q.0).session z (kept_by (with_ending x xs)) q.1.1.1.0 q.1.1.1.1
-        (kept_there q.0 (with_ending x xs) (ending_kept x xs q.0 q.1.0 apart) q.1.1.0)
+    (kept_there q.0 (with_ending x xs) (ending_kept x xs q.0 q.1.0 apart) q.1.1.0)
 
 pub kept_put : (x : Ending) (xs : List Ending) → is_some (slice_get x.awaits 0) ≡ true → keeps_till_done x.end ≡ true
     → In (let k : Kept = record { txn = x.txn; session = x.session } in k) (kept_by (with_ending x xs))
@@ -187,7 +187,7 @@ module _ (k from : ℕ) (c : Cluster) (s : Server) (at : slice_get c.servers k �
         by : (a b : Bool) → same_txn o.txn m.txn ≡ a → (o.part == m.number) ≡ b → stage_here t o ≡ with_key key Unknown (stage_here s) o
         by true true e f =
             its_stage o (txn_is o.txn m.txn e) ∙ ap (λ n. awaited_stage n left.awaits) (eqb-true o.part m.number f)
-                ∙ stage_gone m.number x.awaits
+            ∙ stage_gone m.number x.awaits
             ∙ sym (ap (λ b. cond b Unknown (stage_here s o)) (joined _ _ e f))
         by true false e f =
             let off : same_key o key ≡ false = ap (λ b. b && (o.part == m.number)) e ∙ f in
@@ -226,7 +226,7 @@ module _ (k from : ℕ) (c : Cluster) (s : Server) (at : slice_get c.servers k �
         let j : In l s.leading = subst (In l) leads i in
         let h = held.leading s s_there l j in
         leading_waits c.lines after.lines t held.parts l
-            (λ e. waits_alike c.lines after.lines l.leader.session t.me e (client l.leader.session))
+        (λ e. waits_alike c.lines after.lines l.leader.session t.me e (client l.leader.session))
         (leading_then c.lines s t held.parts here_still txns l (ap (leading_of l.leader.txn) leads ∙ h.one)
         (ap (ending_of l.leader.txn) ends ∙ ending_other left l.leader.txn s.ending (led_apart l j) ∙ h.only) h)
 
@@ -250,7 +250,7 @@ module _ (k from : ℕ) (c : Cluster) (s : Server) (at : slice_get c.servers k �
       | inr w ↦
           let h = held.ending s s_there y w.0 in
           ended_then c.lines s t held.parts here_still txns y (ap (ending_of y.txn) ends ∙ ending_other left y.txn s.ending w.1 ∙ h.one)
-              (ap (leading_of y.txn) leads ∙ h.only) h
+          (ap (leading_of y.txn) leads ∙ h.only) h
     ]
 
     ending_then_all : (y : Ending) → In y t.ending → IsEnded after.lines t held.parts y
@@ -266,17 +266,17 @@ module _ (k from : ℕ) (c : Cluster) (s : Server) (at : slice_get c.servers k �
     -- where the rows of all that is told stay locked
     together : LocksHold t.rows (said_at t) (kept_at t)
         → ((o : Key) → (o.txn.server == k) ≡ true → stage_of_key after.servers o ≢ Unknown → (r : Row) → In r s.rows → r.lock ≡ Some o.txn
-            → In r t.rows) → LedHolds after
+        → In r t.rows) → LedHolds after
     together locks rows = record {
       parts = held.parts;
       stages = stand_then;
       leading = each_after (λ u. (l : Leading) → In l u.leading → IsLeading after.lines u held.parts l) c.servers k t
           (λ u i l j. leading_waits c.lines after.lines u held.parts l
-              (λ e. waits_alike c.lines after.lines l.leader.session u.me e (client l.leader.session)) (held.leading u i l j))
+          (λ e. waits_alike c.lines after.lines l.leader.session u.me e (client l.leader.session)) (held.leading u i l j))
           leading_then_all;
       ending = each_after (λ u. (y : Ending) → In y u.ending → IsEnded after.lines u held.parts y) c.servers k t
           (λ u i y j. ended_waits c.lines after.lines u held.parts y
-              (λ e. waits_alike c.lines after.lines y.session u.me e (client y.session)) (held.ending u i y j))
+          (λ e. waits_alike c.lines after.lines y.session u.me e (client y.session)) (held.ending u i y j))
           ending_then_all;
       ready = each_after (λ u. (y : Ready) → In y u.prepared → find (is_part y.txn y.number) u.prepared ≡ Some y) c.servers k t held.ready
           (λ y i. subst (λ ys. find (is_part y.txn y.number) ys ≡ Some y) (sym waits) (held.ready s s_there y (subst (In y) waits i)));
@@ -297,10 +297,10 @@ module _ (k from : ℕ) (c : Cluster) (s : Server) (at : slice_get c.servers k �
         let o : Key = key_of y.txn y.number in
         let home : y.txn.server ≡ k = ap (λ (t : TxnNo). t.server) (txn_is y.txn x.txn e) ∙ x_holds.own ∙ me in
         let ready : prepared_in c.servers k o ≡ Some (wanted_of y) =
-            ap (λ u. option_map wanted_of (find (is_part y.txn y.number) (ready_at u))) at
-                ∙ ap (option_map wanted_of) (held.ready s s_there y i) in
+        ap (λ u. option_map wanted_of (find (is_part y.txn y.number) (ready_at u))) at
+        ∙ ap (option_map wanted_of) (held.ready s s_there y i) in
         let none : prepared_in c.servers y.txn.server o ≡ None =
-            not_at_home o (held.parts o) (stage_of_key c.servers o) (λ j. prepared_in c.servers j o) _ (held.stages o) in
+        not_at_home o (held.parts o) (stage_of_key c.servers o) (λ j. prepared_in c.servers j o) _ (held.stages o) in
         let wrong : Some (wanted_of y) ≡ None = sym ready ∙ ap (λ j. prepared_in c.servers j o) (sym home) ∙ none in
         absurd (cc)
     | false ↦ λ e. refl
@@ -311,8 +311,8 @@ module _ (k from : ℕ) (c : Cluster) (s : Server) (at : slice_get c.servers k �
   none_said y = In-both y (map agreed_of s.prepared) (flat_map (said_by s.me) s.leading) (same_txn y.key.txn x.txn ≡ false)
       (λ i. let w = In-map agreed_of y s.prepared i in ap (λ (z : Agreed). same_txn z.key.txn x.txn) w.1.1 ∙ none_ready w.0 w.1.0)
       (λ i.
-        let w = In_some (said_by s.me) y s.leading i in
-        ap (λ t. same_txn t x.txn) (said_its s.me w.0 y w.1.1).txn ∙ led_apart w.0 w.1.0)
+      let w = In_some (said_by s.me) y s.leading i in
+      ap (λ t. same_txn t x.txn) (said_its s.me w.0 y w.1.1).txn ∙ led_apart w.0 w.1.0)
 
   kept_over : left.awaits ≡ [] → kept_by (with_ending left s.ending) ≡ without_kept x.txn (kept_at s)
   kept_over e =
@@ -324,12 +324,12 @@ module _ (k from : ℕ) (c : Cluster) (s : Server) (at : slice_get c.servers k �
     | true ↦ λ e.
         let w = in_kept s.ending z i in
         let found : Some w.0 ≡ Some x =
-            sym (held.ending s s_there w.0 w.1.0).one ∙ ap (λ t. ending_of t s.ending) (sym w.1.1.1.0 ∙ txn_is z.txn x.txn e ∙ its_txn)
-            ∙ q.is in
+        sym (held.ending s s_there w.0 w.1.0).one ∙ ap (λ t. ending_of t s.ending) (sym w.1.1.1.0 ∙ txn_is z.txn x.txn e ∙ its_txn)
+        ∙ q.is in
         let same : w.0 ≡ x = cc in
         let keeps : keeps_till_done left.end ≡ true = ap (λ (y : Ending). keeps_till_done y.end) (sym same) ∙ w.1.1.0 in
         kept_as x.txn x.session z (kept_by (with_ending left s.ending)) (txn_is z.txn x.txn e)
-            (w.1.1.1.1 ∙ ap (λ (y : Ending). y.session) same) (kept_put left s.ending some keeps)
+        (w.1.1.1.1 ∙ ap (λ (y : Ending). y.session) same) (kept_put left s.ending some keeps)
     | false ↦ λ e. kept_still left s.ending z i e
   ] refl
 
@@ -337,16 +337,16 @@ module _ (k from : ℕ) (c : Cluster) (s : Server) (at : slice_get c.servers k �
   led_by [] e =
       together (done_with left [] s) refl (omega arith) refl refl refl refl
       (subst (λ ks. LocksHold (rows_unlocked x.txn s.rows) (said_at s) ks) (sym (kept_over e))
-          (last_keeps s.rows (said_at s) (kept_at s) x.txn (held.locks s s_there) none_said))
+      (last_keeps s.rows (said_at s) (kept_at s) x.txn (held.locks s s_there) none_said))
       (λ o own known r i l. unlocked_stay x.txn s.rows r o.txn i l
-          (elim (same_txn o.txn x.txn) as (λ b. same_txn o.txn x.txn ≡ b → b ≡ false) [
+      (elim (same_txn o.txn x.txn) as (λ b. same_txn o.txn x.txn ≡ b → b ≡ false) [
         | true ↦ λ its. absurd (known (over (done_with left [] s) refl (omega arith) refl refl refl refl e o own its))
         | false ↦ λ its. refl
       ] refl))
   led_by (y ∷ ys) e =
       together (done_with left (y ∷ ys) s) refl (omega arith) refl refl refl refl
       (locks_alike s.rows (said_at s) (said_at s) (kept_at s) (kept_by (with_ending left s.ending)) (λ z i. i) (λ z i. i)
-          (kept_on (ap (λ zs. is_some (slice_get zs 0)) e)) (held.locks s s_there))
+      (kept_on (ap (λ zs. is_some (slice_get zs 0)) e)) (held.locks s s_there))
       (λ o own known r i l. i)
 
   pub led_done : LedHolds (then_of k from c (peer.Done m) (done_step m s))

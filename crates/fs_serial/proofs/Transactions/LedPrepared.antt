@@ -55,8 +55,8 @@ pub voted_yes : (s : Server) (by : Session) (p : Part) → vote_here s by p ≡ 
     → (is_mine s p.file ≡ true) × (first_gone s.rows by p.uses ≡ None)
 voted_yes s by p h =
     let mine : is_mine s p.file ≡ true =
-        elim (is_mine s p.file) as
-        (λ b. cond b (vote_by (first_gone s.rows by p.uses) None s.last) (moved_to (longest s.map p.file)) ≡ Yes → b ≡ true) [
+    elim (is_mine s p.file) as
+    (λ b. cond b (vote_by (first_gone s.rows by p.uses) None s.last) (moved_to (longest s.map p.file)) ≡ Yes → b ≡ true) [
       | true ↦ λ e. refl
       | false ↦ λ e. absurd (cc)
     ] h in
@@ -138,7 +138,7 @@ module _ (k from : ℕ) (c : Cluster) (s : Server) (at : slice_get c.servers k �
       telling_append (without_first (is_between from k) c.in_flight) (in_flight_from k (votes v from m s).out.send)
       ∙ ap (λ xs. xs ++ telling_of (in_flight_from k (votes v from m s).out.send)) heard_it.left
       ∙ ap (λ n. taken asks (telling_of c.in_flight) ++
-          (let w : Told = record { from = k; to = n; key = key; word = Voted v } in w) ∷ []) here.leader
+      (let w : Told = record { from = k; to = n; key = key; word = Voted v } in w) ∷ []) here.leader
 
   stages_after : (y : Key) → stage_of_key after.servers y ≡ stage_of_key c.servers y
   stages_after y = stage_set c.servers k s t at leaves.leading leaves.ending y
@@ -155,11 +155,11 @@ module _ (k from : ℕ) (c : Cluster) (s : Server) (at : slice_get c.servers k �
       elim (same_key y key) as
       (λ b. same_key y key ≡ b → option_map wanted_of (find (is_part y.txn y.part) (s.prepared ++ new ∷ [])) ≡ cond b (Some asked)
       (option_map wanted_of (find (is_part y.txn y.part) s.prepared))) [
-    | true ↦
-        λ e. ap (λ (z : Key). option_map wanted_of (find (is_part z.txn z.part) (s.prepared ++ new ∷ []))) (key_is y key e)
-        ∙ ap (option_map wanted_of) (part_last new s.prepared none_ready)
-    | false ↦ λ e. ap (option_map wanted_of) (part_other new y s.prepared e)
-  ] refl
+        | true ↦
+            λ e. ap (λ (z : Key). option_map wanted_of (find (is_part z.txn z.part) (s.prepared ++ new ∷ []))) (key_is y key e)
+            ∙ ap (option_map wanted_of) (part_last new s.prepared none_ready)
+        | false ↦ λ e. ap (option_map wanted_of) (part_other new y s.prepared e)
+      ] refl
 
   prepared_by : (w : Vote) (j : ℕ) (y : Key) → prepared_in (then_of k from c (peer.Prepare m) (votes w from m s)).servers j y ≡ cond
       (is_yes w) (with_prepared k key (Some asked) (prepared_in c.servers)) (prepared_in c.servers) j y
@@ -183,7 +183,7 @@ module _ (k from : ℕ) (c : Cluster) (s : Server) (at : slice_get c.servers k �
   ready_by Yes x i = In-more x s.prepared new (find (is_part x.txn x.number) (s.prepared ++ new ∷ []) ≡ Some x)
       (λ j. found_front (is_part x.txn x.number) s.prepared (new ∷ []) x (held.ready s s_there x j))
       (λ e. subst (λ (z : Ready). find (is_part z.txn z.number) (s.prepared ++ new ∷ []) ≡ Some z) (sym e)
-          (part_last new s.prepared none_ready)) i
+      (part_last new s.prepared none_ready)) i
   ready_by (Ended n u w) x i = held.ready s s_there x i
   ready_by (Moved p to) x i = held.ready s s_there x i
   ready_by (PathsOut n) x i = held.ready s s_there x i
@@ -212,10 +212,10 @@ module _ (k from : ℕ) (c : Cluster) (s : Server) (at : slice_get c.servers k �
     locks_by Yes e =
         let others : List Agreed = flat_map (said_by s.me) s.leading in
         locks_alike (rows_locked m.txn m.part.uses s.rows) (agreed_of new ∷ said_at s) (said_at (after_vote Yes new s)) (kept_at s)
-            (kept_at s)
+        (kept_at s)
         (said_more new s.prepared others) (said_no_less new s.prepared others) (λ z i. i)
         (yes_locks s.rows (said_at s) (kept_at s) (agreed_of new) (held.locks s s_there) ordered
-            (voted_yes s m.session m.part e).1 own_locks)
+        (voted_yes s m.session m.part e).1 own_locks)
     locks_by (Ended n u w) e = held.locks s s_there
     locks_by (Moved p to) e = held.locks s s_there
     locks_by (PathsOut n) e = held.locks s s_there
@@ -226,10 +226,10 @@ module _ (k from : ℕ) (c : Cluster) (s : Server) (at : slice_get c.servers k �
       stages = stand_then;
       leading = each_after (λ z. (l : Leading) → In l z.leading → IsLeading c.lines z held.parts l) c.servers k t held.leading
           (λ l i. leading_still c.lines s t held.parts leaves.me leaves.txns leaves.leading leaves.ending l
-              (held.leading s s_there l (subst (In l) leaves.leading i)));
+          (held.leading s s_there l (subst (In l) leaves.leading i)));
       ending = each_after (λ z. (x : Ending) → In x z.ending → IsEnded c.lines z held.parts x) c.servers k t held.ending
           (λ x i. ended_still c.lines s t held.parts leaves.me leaves.txns leaves.leading leaves.ending x
-              (held.ending s s_there x (subst (In x) leaves.ending i)));
+          (held.ending s s_there x (subst (In x) leaves.ending i)));
       ready = each_after (λ z. (x : Ready) → In x z.prepared → find (is_part x.txn x.number) z.prepared ≡ Some x) c.servers k t held.ready
           (ready_by v);
       locks = each_after (λ z. LocksHold z.rows (said_at z) (kept_at z)) c.servers k t held.locks (locks_by v refl);

@@ -36,8 +36,10 @@ use Rattle.fs_serial.proofs.Grants.Leased.{In-put_still}
 locked_so : (rows : List Row) (r q : Row) (txn : TxnNo) → In q rows → SameLease r q → q.lock ≡ Some txn
     → IsLocked rows txn r.session r.no r.field r.kind
 locked_so rows r q txn i same e =
-    record { has = record { row = q; stands = i; number = same.number; session = same.session; field = same.field; kind = same.kind };
-    lock = e }
+    record {
+      has = record { row = q; stands = i; number = same.number; session = same.session; field = same.field; kind = same.kind };
+      lock = e;
+    }
 
 locked_itself : (rows : List Row) (r : Row) (txn : TxnNo) → In r rows → r.lock ≡ Some txn → IsLocked rows txn r.session r.no r.field r.kind
 locked_itself rows r txn i e = locked_so rows r r txn i (record { number = refl; session = refl; field = refl; kind = refl }) e
@@ -47,7 +49,7 @@ locks_itself rows = record { stays = λ r i txn e. locked_itself rows r txn i e;
 
 passed_on : (rows new : List Row) (txn : TxnNo) (by : Session) (n : LeaseNo) (on : Field) (kind : LeaseKind)
     → ((r : Row) → In r rows → r.lock ≡ Some txn → IsLocked new txn r.session r.no r.field r.kind) → IsLocked rows txn by n on kind
-        → IsLocked new txn by n on kind
+    → IsLocked new txn by n on kind
 passed_on rows new txn by n on kind on_to x =
     let q = on_to x.has.row x.has.stands x.lock in
     record {
@@ -147,7 +149,7 @@ pub locks_with_rows : (more rows : List Row) → ((r : Row) → In r more → r.
 locks_with_rows [] rows free = locks_itself rows
 locks_with_rows (x ∷ xs) rows free =
     locks_then rows (with_row x rows) (with_rows xs (with_row x rows)) (locks_with_row x rows (free x (inl refl)))
-        (locks_with_rows xs (with_row x rows) (λ r i. free r (inr i)))
+    (locks_with_rows xs (with_row x rows) (λ r i. free r (inr i)))
 
 -- ## A move
 
@@ -164,7 +166,7 @@ none_locked prefix owners me (x ∷ xs) h r i g =
     elim i as (λ _. r.lock ≡ None) [
       | inl e ↦
           let given : is_given owners me prefix (file_of x.field) ≡ true =
-              ap (λ (z : Row). is_given owners me prefix (file_of z.field)) (sym e) ∙ g in
+          ap (λ (z : Row). is_given owners me prefix (file_of z.field)) (sym e) ∙ g in
           ap (λ (z : Row). z.lock) e ∙ sym (ap (λ b. cond b x.lock None) given) ∙ q.0
       | inr j ↦ none_locked prefix owners me xs q.1 r j g
     ]

@@ -66,15 +66,15 @@ pub leads_its : (x : Session) (servers : List Server) (s : Server) → In s serv
 leads_its x servers s i l j e =
     let among : In l (filter (leads x) s.leading) = kept_in (leads x) l s.leading j (ap (λ (y : Session). y.0 == x.0) e ∙ itself x.0) in
     In_all (txns_at x) l.leader.txn s servers i
-        (In-front l.leader.txn (leads_at x s) (ends_at x s)
-        (In-mapped (λ (z : Leading). z.leader.txn) l (filter (leads x) s.leading) among))
+    (In-front l.leader.txn (leads_at x s) (ends_at x s)
+    (In-mapped (λ (z : Leading). z.leader.txn) l (filter (leads x) s.leading) among))
 
 pub ends_its : (x : Session) (servers : List Server) (s : Server) → In s servers → (y : Ending) → In y s.ending → y.session ≡ x
     → In y.txn (txns_of x servers)
 ends_its x servers s i y j e =
     let among : In y (filter (ended x) s.ending) = kept_in (ended x) y s.ending j (ap (λ (z : Session). z.0 == x.0) e ∙ itself x.0) in
     In_all (txns_at x) y.txn s servers i
-        (In-behind y.txn (leads_at x s) (ends_at x s) (In-mapped (λ (z : Ending). z.txn) y (filter (ended x) s.ending) among))
+    (In-behind y.txn (leads_at x s) (ends_at x s) (In-mapped (λ (z : Ending). z.txn) y (filter (ended x) s.ending) among))
 
 pub all_owed_due : (x : Session) (servers : List Server) → due (owed_to x servers) ≡ owed_to x servers
 all_owed_due x servers = all_stay (λ a. not (is_recall a)) (owed_to x servers) (λ a i.
@@ -90,16 +90,16 @@ counted x [] = omega arith
 counted x (s ∷ ss) =
     let rest : length (txns_of x ss) ≡ length (flat_map (leads_at x) ss) + length (owed_to x ss) = counted x ss in
     let all : length ((leads_at x s ++ ends_at x s) ++ txns_of x ss) ≡ length (leads_at x s ++ ends_at x s) + length (txns_of x ss) =
-        length-append (leads_at x s ++ ends_at x s) (txns_of x ss) in
+    length-append (leads_at x s ++ ends_at x s) (txns_of x ss) in
     let own : length (leads_at x s ++ ends_at x s) ≡ length (leads_at x s) + length (ends_at x s) =
-        length-append (leads_at x s) (ends_at x s) in
+    length-append (leads_at x s) (ends_at x s) in
     let led : length (leads_at x s ++ flat_map (leads_at x) ss) ≡ length (leads_at x s) + length (flat_map (leads_at x) ss) =
-        length-append (leads_at x s) (flat_map (leads_at x) ss) in
+    length-append (leads_at x s) (flat_map (leads_at x) ss) in
     let owed : length (owed_at x s ++ owed_to x ss) ≡ length (owed_at x s) + length (owed_to x ss) =
-        length-append (owed_at x s) (owed_to x ss) in
+    length-append (owed_at x s) (owed_to x ss) in
     let same : length (ends_at x s) ≡ length (owed_at x s) =
-        length-map (filter (ended x) s.ending) (λ (y : Ending). y.txn)
-        ∙ sym (length-map (filter (ended x) s.ending) (λ (e : Ending). answer.Led e.end)) in
+    length-map (filter (ended x) s.ending) (λ (y : Ending). y.txn)
+    ∙ sym (length-map (filter (ended x) s.ending) (λ (e : Ending). answer.Led e.end)) in
     omega (arith, rest, all, own, led, owed, same)
 
 taken_all : (x : Session) (d : Led) (servers : List Server)
@@ -108,10 +108,10 @@ taken_all x d [] = refl
 taken_all x d (s ∷ ss) =
     let rest : length (flat_map (leads_at x) ss) ≡ length (taken_leads x (Some d) ss) = taken_all x d ss in
     let each : taken_at x (Some d) s ≡ map (λ (l : Leading). message.Lead (lead_of d)) (filter (leads x) s.leading) =
-        flat_map_single (λ (l : Leading). message.Lead (lead_of d)) (filter (leads x) s.leading) in
+    flat_map_single (λ (l : Leading). message.Lead (lead_of d)) (filter (leads x) s.leading) in
     let same : length (leads_at x s) ≡ length (taken_at x (Some d) s) =
-        length-map (filter (leads x) s.leading) (λ (l : Leading). l.leader.txn)
-        ∙ sym (ap length each ∙ length-map (filter (leads x) s.leading) (λ (l : Leading). message.Lead (lead_of d))) in
+    length-map (filter (leads x) s.leading) (λ (l : Leading). l.leader.txn)
+    ∙ sym (ap length each ∙ length-map (filter (leads x) s.leading) (λ (l : Leading). message.Lead (lead_of d))) in
     length-append (leads_at x s) (flat_map (leads_at x) ss)
     ∙ ap (λ n. n + length (flat_map (leads_at x) ss)) same
     ∙ ap (λ n. length (taken_at x (Some d) s) + n) rest
@@ -135,7 +135,7 @@ module _ (c : Cluster) (h : LedHolds c) (x : Session) (one : length (ends_in c x
   not_taken_more (t ∷ ts) e =
       let w = waits t (subst (In t) (sym e) (inl refl)) in
       let same : length (flat_map (leads_at x) c.servers) ≡ length (taken_leads x (c.lines x).client.led c.servers) =
-          taken_all x w.0 c.servers ∙ ap (λ d. length (taken_leads x d c.servers)) (sym w.1) in
+      taken_all x w.0 c.servers ∙ ap (λ d. length (taken_leads x d c.servers)) (sym w.1) in
       omega (arith, same)
 
   -- counted with what it asks for itself
@@ -144,14 +144,14 @@ module _ (c : Cluster) (h : LedHolds c) (x : Session) (one : length (ends_in c x
       let asked : List ClientMsg = map (λ (m : ℕ × ClientMsg). m.1) (c.lines x).up in
       let told : List Answer = map (λ (m : ℕ × Answer). m.1) (c.lines x).down in
       let all : length (txns_of x c.servers) ≡ length (flat_map (leads_at x) c.servers) + length (owed_to x c.servers) =
-          counted x c.servers in
+      counted x c.servers in
       let led : length (flat_map (leads_at x) c.servers) ≤ length (taken_leads x (c.lines x).client.led c.servers) =
-          not_taken_more (flat_map (leads_at x) c.servers) refl in
+      not_taken_more (flat_map (leads_at x) c.servers) refl in
       let up : length (ends_in c x).up ≡ length asked + length (taken_leads x (c.lines x).client.led c.servers) =
-          length-append asked (taken_leads x (c.lines x).client.led c.servers) in
+      length-append asked (taken_leads x (c.lines x).client.led c.servers) in
       let down : length (due (ends_in c x).down) ≡ length (owed_to x c.servers) + length (due told) =
-          ap length (due_both (owed_to x c.servers) told ∙ ap (λ ys. ys ++ due told) (all_owed_due x c.servers))
-              ∙ length-append (owed_to x c.servers) (due told) in
+      ap length (due_both (owed_to x c.servers) told ∙ ap (λ ys. ys ++ due told) (all_owed_due x c.servers))
+      ∙ length-append (owed_to x c.servers) (due told) in
       omega (arith, all, led, up, down, one)
 
   few : length (txns_of x c.servers) ≤ 1

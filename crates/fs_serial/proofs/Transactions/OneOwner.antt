@@ -40,7 +40,7 @@ module _ (c : Cluster) (h : LedHolds c) (k : ℕ) (s : Server) (at : slice_get c
   none_its by m there u o =
       let up : List ClientMsg = map (λ (x : ℕ × ClientMsg). x.1) (c.lines by).up in
       let asks : In (Lead m) up =
-          In-mapped (λ (x : ℕ × ClientMsg). x.1) (k, Lead m) (c.lines by).up (found (is_with k) (c.lines by).up (k, Lead m) there).0 in
+      In-mapped (λ (x : ℕ × ClientMsg). x.1) (k, Lead m) (c.lines by).up (found (is_with k) (c.lines by).up (k, Lead m) there).0 in
       let asked : 1 ≤ length up = some_there (Lead m) up asks in
       let has : 1 ≤ length (txns_of by c.servers) = some_there u (txns_of by c.servers) (owned by u o) in
       let few : length (txns_of by c.servers) + length up ≤ 1 = with_asked c h by (one by) in

@@ -182,7 +182,7 @@ module _ (k : ℕ) (e : ServerEvent) (s : Server) (x : Stepped) (c : Cluster) (a
   locks_here : LocksHold t.rows (said_at t) (kept_at t)
   locks_here =
       let held_then : LocksHold t.rows (said_at s) (kept_at s) =
-          others_keep s.rows t.rows (said_at s) (kept_at s) (held.locks s here) leaves.locks in
+      others_keep s.rows t.rows (said_at s) (kept_at s) (held.locks s here) leaves.locks in
       subst (λ xs. LocksHold t.rows (said_at t) (kept_by xs)) (sym leaves.ending)
       (subst (λ me. LocksHold t.rows (map agreed_of t.prepared ++ flat_map (said_by me) t.leading) (kept_at s)) (sym leaves.me)
       (subst (λ xs. LocksHold t.rows (map agreed_of t.prepared ++ flat_map (said_by s.me) xs) (kept_at s)) (sym leaves.leading)
@@ -195,11 +195,11 @@ module _ (k : ℕ) (e : ServerEvent) (s : Server) (x : Stepped) (c : Cluster) (a
     covered = h.covered;
     placed = elim (key.txn.server == k) as
         (λ b. (key.txn.server == k) ≡ b → IsPlaced (rows_at (slice_get after.servers key.txn.server)) key.txn w.session d) [
-      | true ↦ λ q. subst (λ o. IsPlaced (rows_at o) key.txn w.session d) (sym (is_at c.servers k s t at key.txn.server q))
-          (placed_stays s.rows t.rows key.txn w.session d (λ r i l. leaves.locks.stays r i key.txn l)
+          | true ↦ λ q. subst (λ o. IsPlaced (rows_at o) key.txn w.session d) (sym (is_at c.servers k s t at key.txn.server q))
+              (placed_stays s.rows t.rows key.txn w.session d (λ r i l. leaves.locks.stays r i key.txn l)
               (subst (λ o. IsPlaced (rows_at o) key.txn w.session d) (was_at c.servers k s t at key.txn.server q) h.placed))
-      | false ↦ λ q. subst (λ o. IsPlaced (rows_at o) key.txn w.session d) (sym (is_still c.servers k s t at key.txn.server q)) h.placed
-    ] refl;
+          | false ↦ λ q. subst (λ o. IsPlaced (rows_at o) key.txn w.session d) (sym (is_still c.servers k s t at key.txn.server q)) h.placed
+        ] refl;
   }
 
   client_still : (by : Session) → (after.lines by).client ≡ (c.lines by).client
@@ -212,11 +212,11 @@ module _ (k : ℕ) (e : ServerEvent) (s : Server) (x : Stepped) (c : Cluster) (a
     leading = λ z i l j. leading_waits c.lines after.lines z held.parts l
         (λ d h. waits_alike c.lines after.lines l.leader.session z.me d (client_still l.leader.session) h)
         (each_after (λ a. In l a.leading → IsLeading c.lines a held.parts l) c.servers k t (λ a p q. held.leading a p l q)
-            (leading_here l) z i j);
+        (leading_here l) z i j);
     ending = λ z i y j. ended_waits c.lines after.lines z held.parts y
         (λ d h. waits_alike c.lines after.lines y.session z.me d (client_still y.session) h)
         (each_after (λ a. In y a.ending → IsEnded c.lines a held.parts y) c.servers k t (λ a p q. held.ending a p y q)
-            (ending_here y) z i j);
+        (ending_here y) z i j);
     ready = λ z i r j. each_after (λ a. In r a.prepared → find (is_part r.txn r.number) a.prepared ≡ Some r) c.servers k t
         (λ a p q. held.ready a p r q)
         (λ q. ap (find (is_part r.txn r.number)) leaves.prepared ∙ held.ready s here r (subst (In r) leaves.prepared q)) z i j;
@@ -244,8 +244,8 @@ module _ (by : Session) (c : Cluster) (held : LedHolds c) (journal : List Item) 
         of true t =
             let same : by ≡ y = one_session by y t in
             subst (λ z. IsLedBy later z n d) same
-                (leaves n d (subst (λ z. IsLedBy c.lines z n d) (sym same) h)
-                (subst (λ z. (s : Server) × (In s c.servers × LeadsFor s z)) (sym same) leads))
+            (leaves n d (subst (λ z. IsLedBy c.lines z n d) (sym same) h)
+            (subst (λ z. (s : Server) × (In s c.servers × LeadsFor s z)) (sym same) leads))
         of false t = waits_alike c.lines later y n d (ap (λ b. (let l : Lines = cond b own (c.lines y) in l).client) t) h
 
     pub lines_keep_led : LedHolds then

@@ -93,7 +93,7 @@ awaited_in : (number : ℕ) (xs : List (ℕ × ℕ)) → awaited_stage number xs
 awaited_in number [] n = absurd (n refl)
 awaited_in number (x ∷ xs) n =
     elim (x.0 == number) as
-        (λ b. (x.0 == number) ≡ b → cond b (Awaited x.1) (awaited_stage number xs) ≢ Unknown → (at : ℕ) × In (number, at) (x ∷ xs)) [
+    (λ b. (x.0 == number) ≡ b → cond b (Awaited x.1) (awaited_stage number xs) ≢ Unknown → (at : ℕ) × In (number, at) (x ∷ xs)) [
       | true ↦ λ t m. (x.1, inl (ap (λ (i : ℕ). let p : ℕ × ℕ = (i, x.1) in p) (sym (eqb-true x.0 number t))))
       | false ↦ λ t m. let q = awaited_in number xs m in (q.0, inr q.1)
     ] refl n
@@ -106,9 +106,9 @@ stands_in servers key n = by_tables (led_in servers key.txn) (ended_in servers k
     by_tables (Some l) x e f m =
         elim (slice_get l.at key.part) as
         (λ o. slice_get l.at key.part ≡ o → stage_by o (slice_get l.leader.votes key.part) ≢ Unknown → Stands servers key) [
-      | None ↦ λ g m. absurd (m refl)
-      | Some at ↦ λ g m. inl (record { leading = l; led = e; at = at; asked = g })
-    ] refl m
+          | None ↦ λ g m. absurd (m refl)
+          | Some at ↦ λ g m. inl (record { leading = l; led = e; at = at; asked = g })
+        ] refl m
     by_tables None (Some x) e f m = let q = awaited_in key.part x.awaits m in
         inr (record { ending = x; led = e; ended = f; at = q.0; awaited = q.1 })
     by_tables None None e f m = absurd (m refl)
@@ -143,10 +143,10 @@ module _ (c : Cluster) (h : LedHolds c) where
       elim (slice_get c.servers txn.server) as
       (λ o. slice_get c.servers txn.server ≡ o → leading_of txn (leading_at o) ≡ Some l
       → (s : Server) × (In s c.servers × (In l s.leading × (l.leader.txn ≡ txn)))) [
-    | None ↦ λ e g. absurd (cc)
-    | Some s ↦ λ e g. let q = found (λ (x : Leading). same_txn x.leader.txn txn) s.leading l g in
-        (s, (In-got c.servers txn.server s e, (q.0, txn_is l.leader.txn txn q.1)))
-  ] refl led
+        | None ↦ λ e g. absurd (cc)
+        | Some s ↦ λ e g. let q = found (λ (x : Leading). same_txn x.leader.txn txn) s.leading l g in
+            (s, (In-got c.servers txn.server s e, (q.0, txn_is l.leader.txn txn q.1)))
+      ] refl led
 
   ended_there : (txn : TxnNo) (x : Ending) → ended_in c.servers txn ≡ Some x
       → (s : Server) × (In s c.servers × (In x s.ending × (x.txn ≡ txn)))
@@ -154,10 +154,10 @@ module _ (c : Cluster) (h : LedHolds c) where
       elim (slice_get c.servers txn.server) as
       (λ o. slice_get c.servers txn.server ≡ o → ending_of txn (ending_at o) ≡ Some x
       → (s : Server) × (In s c.servers × (In x s.ending × (x.txn ≡ txn)))) [
-    | None ↦ λ e g. absurd (cc)
-    | Some s ↦ λ e g. let q = found (λ (y : Ending). same_txn y.txn txn) s.ending x g in
-        (s, (In-got c.servers txn.server s e, (q.0, txn_is x.txn txn q.1)))
-  ] refl ended
+        | None ↦ λ e g. absurd (cc)
+        | Some s ↦ λ e g. let q = found (λ (y : Ending). same_txn y.txn txn) s.ending x g in
+            (s, (In-got c.servers txn.server s e, (q.0, txn_is x.txn txn q.1)))
+      ] refl ended
 
   -- a part is asked for, or told, for the session of its transaction
   pub led_session : (key : Key) (q : IsLedAt c.servers key) → (h.parts key).session ≡ q.leading.leader.session
@@ -166,7 +166,7 @@ module _ (c : Cluster) (h : LedHolds c) where
       let l = h.leading t.0 t.1.0 q.leading t.1.1.0 in
       let p = in_range q.leading.at q.leading.leader.parts key.part q.at l.asked q.asked in
       subst (λ (x : TxnNo). (h.parts (key_of x key.part)).session ≡ q.leading.leader.session) t.1.1.1
-          (ap (λ (w : Wanted). w.session) (l.wanted key.part p.0 p.1))
+      (ap (λ (w : Wanted). w.session) (l.wanted key.part p.0 p.1))
 
   pub ended_session : (key : Key) (q : IsEndedAt c.servers key) → (h.parts key).session ≡ q.ending.session
   ended_session key q =
@@ -178,11 +178,11 @@ module _ (c : Cluster) (h : LedHolds c) where
   part_txn key (inl q) =
       let t = led_there key.txn q.leading q.led in
       subst (λ x. Its x (h.parts key).session) t.1.1.1
-          (leads_its (h.parts key).session c.servers t.0 t.1.0 q.leading t.1.1.0 (sym (led_session key q)))
+      (leads_its (h.parts key).session c.servers t.0 t.1.0 q.leading t.1.1.0 (sym (led_session key q)))
   part_txn key (inr q) =
       let t = ended_there key.txn q.ending q.ended in
       subst (λ x. Its x (h.parts key).session) t.1.1.1
-          (ends_its (h.parts key).session c.servers t.0 t.1.0 q.ending t.1.1.0 (sym (ended_session key q)))
+      (ends_its (h.parts key).session c.servers t.0 t.1.0 q.ending t.1.1.0 (sym (ended_session key q)))
 
   pub part_session : (key : Key) → Stands c.servers key → session_of c.servers key.txn ≡ Some (h.parts key).session
   part_session key (inl q) = ap (λ o. session_by o (ended_in c.servers key.txn)) q.led ∙ ap Some (sym (led_session key q))
@@ -200,10 +200,10 @@ module _ (c : Cluster) (h : LedHolds c) where
     waiting_part x i =
         let key : Key = key_of x.txn x.number in
         let here : prepared_in c.servers k key ≡ Some (wanted_of x) =
-            ap (λ o. option_map wanted_of (find (is_part x.txn x.number) (ready_at o))) at
-            ∙ ap (option_map wanted_of) (h.ready s among x i) in
+        ap (λ o. option_map wanted_of (find (is_part x.txn x.number) (ready_at o))) at
+        ∙ ap (option_map wanted_of) (h.ready s among x i) in
         known_part key (h.parts key) (stage_of_key c.servers key) (λ j. prepared_in c.servers j key)
-            (told_of key (telling_of c.in_flight)) k (wanted_of x) (h.stages key) here
+        (told_of key (telling_of c.in_flight)) k (wanted_of x) (h.stages key) here
 
     -- of a part that waits, and of one that its leader has
     ready_stands : (x : Ready) → In x s.prepared → Stands c.servers (key_of x.txn x.number)
@@ -215,13 +215,13 @@ module _ (c : Cluster) (h : LedHolds c) where
     pub said_txn : (y : Agreed) → In y (said_at s) → Its y.key.txn y.wanted.session
     said_txn y = In-both y (map agreed_of s.prepared) (flat_map (said_by s.me) s.leading) (Its y.key.txn y.wanted.session)
         (λ i.
-          let q = In-map agreed_of y s.prepared i in
-          subst (λ (z : Agreed). Its z.key.txn z.wanted.session) (sym q.1.1)
-              (subst (Its (q.0).txn) (ready_session q.0 q.1.0) (part_txn (key_of (q.0).txn (q.0).number) (ready_stands q.0 q.1.0))))
+        let q = In-map agreed_of y s.prepared i in
+        subst (λ (z : Agreed). Its z.key.txn z.wanted.session) (sym q.1.1)
+        (subst (Its (q.0).txn) (ready_session q.0 q.1.0) (part_txn (key_of (q.0).txn (q.0).number) (ready_stands q.0 q.1.0))))
         (λ i.
-          let q = In_some (said_by s.me) y s.leading i in
-          let l = said_its s.me q.0 y q.1.1 in
-          subst (λ t. Its t y.wanted.session) (sym l.txn) (leads_its y.wanted.session c.servers s among q.0 q.1.0 (sym l.session)))
+        let q = In_some (said_by s.me) y s.leading i in
+        let l = said_its s.me q.0 y q.1.1 in
+        subst (λ t. Its t y.wanted.session) (sym l.txn) (leads_its y.wanted.session c.servers s among q.0 q.1.0 (sym l.session)))
 
     pub kept_txn : (y : Kept) → In y (kept_at s) → Its y.txn y.session
     kept_txn y i =
@@ -240,20 +240,20 @@ module _ (c : Cluster) (h : LedHolds c) where
       said_session y =
           In-both y (map agreed_of s.prepared) (flat_map (said_by s.me) s.leading) (session_of c.servers y.key.txn ≡ Some y.wanted.session)
           (λ i.
-            let q = In-map agreed_of y s.prepared i in
-            subst (λ (z : Agreed). session_of c.servers z.key.txn ≡ Some z.wanted.session) (sym q.1.1)
-                (part_session (key_of (q.0).txn (q.0).number) (ready_stands q.0 q.1.0) ∙ ap Some (ready_session q.0 q.1.0)))
+          let q = In-map agreed_of y s.prepared i in
+          subst (λ (z : Agreed). session_of c.servers z.key.txn ≡ Some z.wanted.session) (sym q.1.1)
+          (part_session (key_of (q.0).txn (q.0).number) (ready_stands q.0 q.1.0) ∙ ap Some (ready_session q.0 q.1.0)))
           (λ i.
-            let q = In_some (said_by s.me) y s.leading i in
-            let l = said_its s.me q.0 y q.1.1 in
-            let x = h.leading s among q.0 q.1.0 in
-            let led : led_in c.servers (q.0).leader.txn ≡ Some q.0 =
-                ap (λ n. leading_of (q.0).leader.txn (leading_at (slice_get c.servers n))) (x.own ∙ me)
-                    ∙ ap (λ o. leading_of (q.0).leader.txn (leading_at o)) at ∙ x.one in
-            ap (session_of c.servers) l.txn ∙ ap (λ o. session_by o (ended_in c.servers (q.0).leader.txn)) led ∙ ap Some (sym l.session))
+          let q = In_some (said_by s.me) y s.leading i in
+          let l = said_its s.me q.0 y q.1.1 in
+          let x = h.leading s among q.0 q.1.0 in
+          let led : led_in c.servers (q.0).leader.txn ≡ Some q.0 =
+          ap (λ n. leading_of (q.0).leader.txn (leading_at (slice_get c.servers n))) (x.own ∙ me)
+          ∙ ap (λ o. leading_of (q.0).leader.txn (leading_at o)) at ∙ x.one in
+          ap (session_of c.servers) l.txn ∙ ap (λ o. session_by o (ended_in c.servers (q.0).leader.txn)) led ∙ ap Some (sym l.session))
 
       pub one_said : (y z : Agreed) → In y (said_at s) → In z (said_at s) → y.key.txn ≡ z.key.txn → y.wanted.session ≡ z.wanted.session
       one_said y z i j e =
           let same : Some y.wanted.session ≡ Some z.wanted.session =
-              sym (said_session y i) ∙ ap (session_of c.servers) e ∙ said_session z j in
+          sym (said_session y i) ∙ ap (session_of c.servers) e ∙ said_session z j in
           cc

@@ -56,7 +56,7 @@ with_first f fs h e =
 pub first_part : (m : ToLead) → slice_get (parts_in m) 0 ≡ Some (part_at Plain m.op m.file m.uses (home_of m.op))
 first_part m = map_at (part_at Plain m.op m.file m.uses) (led_files m.op m.file) 0 (home_of m.op)
     (with_first m.file (with_file (source_of m.op) (home_of m.op ∷ [])) (home_of m.op)
-        (with_first (source_of m.op) (home_of m.op ∷ []) (home_of m.op) refl))
+    (with_first (source_of m.op) (home_of m.op ∷ []) (home_of m.op) refl))
 
 pub parts_apart : (m : ToLead) (i j : ℕ) (p q : Part) → (i == j) ≡ false → slice_get (parts_in m) i ≡ Some p
     → slice_get (parts_in m) j ≡ Some q → same p.file q.file ≡ false

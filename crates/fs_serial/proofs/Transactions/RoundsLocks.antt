@@ -51,13 +51,13 @@ yes_last number [] (y ∷ ks) v k same = absurd (cc)
 yes_last number (x ∷ vs) [] v k same = absurd (cc)
 yes_last number (x ∷ vs) (y ∷ ks) v k same =
     let rest : yes_from (number + 1) (vs ++ v ∷ []) (ks ++ k ∷ [])
-        ≡ yes_from (number + 1) vs ks ++ cond (said_yes v) ((number + length (x ∷ vs), k) ∷ []) [] =
-        yes_last (number + 1) vs ks v k (cc) ∙ ap (λ n. yes_from (number + 1) vs ks ++ cond (said_yes v) ((n, k) ∷ []) []) (omega arith) in
+    ≡ yes_from (number + 1) vs ks ++ cond (said_yes v) ((number + length (x ∷ vs), k) ∷ []) [] =
+    yes_last (number + 1) vs ks v k (cc) ∙ ap (λ n. yes_from (number + 1) vs ks ++ cond (said_yes v) ((n, k) ∷ []) []) (omega arith) in
     elim (said_yes x) as
-        (λ b. cond b ((number, y) ∷ yes_from (number + 1) (vs ++ v ∷ []) (ks ++ k ∷ []))
-        (yes_from (number + 1) (vs ++ v ∷ []) (ks ++ k ∷ []))
-        ≡ cond b ((number, y) ∷ yes_from (number + 1) vs ks) (yes_from (number + 1) vs ks) ++ cond (said_yes v)
-        ((number + length (x ∷ vs), k) ∷ []) []) [
+    (λ b. cond b ((number, y) ∷ yes_from (number + 1) (vs ++ v ∷ []) (ks ++ k ∷ []))
+    (yes_from (number + 1) (vs ++ v ∷ []) (ks ++ k ∷ []))
+    ≡ cond b ((number, y) ∷ yes_from (number + 1) vs ks) (yes_from (number + 1) vs ks) ++ cond (said_yes v)
+    ((number + length (x ∷ vs), k) ∷ []) []) [
       | true ↦ ap (λ ys. (number, y) ∷ ys) rest
       | false ↦ rest
     ]
@@ -114,7 +114,7 @@ module _ (txn : TxnNo) (by : Session) (m : ToLead) (me : ℕ) (said : List Agree
   said_more : (votes : Votes) (at : List ℕ) (v : Option Vote) (k : ℕ) → length votes ≡ length at
       → said_by me (record { leader = leader_with txn by m (votes ++ v ∷ []); at = at ++ k ∷ [] })
       ≡ said_by me (record { leader = leader_with txn by m votes; at = at }) ++ flat_map of_number
-          (filter at_me (cond (said_yes v) ((0 + length votes, k) ∷ []) []))
+      (filter at_me (cond (said_yes v) ((0 + length votes, k) ∷ []) []))
   said_more votes at v k same =
       ap (λ xs. flat_map of_number (filter at_me xs)) (yes_last 0 votes at v k same)
       ∙ ap (flat_map of_number) (filter-append at_me (yes_from 0 votes at) (cond (said_yes v) ((0 + length votes, k) ∷ []) []))
@@ -141,7 +141,7 @@ module _ (txn : TxnNo) (by : Session) (m : ToLead) (me : ℕ) (said : List Agree
         said_more r.votes r.at (Some Yes) me same
         ∙ ap (λ b. said_by me (led_so_far r) ++ flat_map of_number (cond b ((0 + length r.votes, me) ∷ []) [])) (itself me)
         ∙ ap (λ n. said_by me (led_so_far r) ++ (agreed_part none_yet n (slice_get (parts_in m) n) ++ []))
-            (let e : 0 + length r.votes ≡ number = omega arith in e)
+        (let e : 0 + length r.votes ≡ number = omega arith in e)
         ∙ ap (λ o. said_by me (led_so_far r) ++ (agreed_part none_yet number o ++ [])) part
 
     -- whoever locks a row of the session here is the transaction
@@ -166,8 +166,8 @@ module _ (txn : TxnNo) (by : Session) (m : ToLead) (me : ℕ) (said : List Agree
         subst (λ ys. LocksHold (rows_voted Yes txn p.uses r.server.rows) (said ++ ys) kept) (sym is_said)
         (locks_alike (rows_voted Yes txn p.uses r.server.rows) (y ∷ said_so_far r) (said ++ (said_by me (led_so_far r) ++ y ∷ [])) kept kept
         (λ z i. In-both z (said_so_far r) (y ∷ []) (In z (y ∷ said_so_far r)) (λ j. inr j)
-            (λ j. elim j as (λ _. In z (y ∷ said_so_far r)) [ inl e ↦ inl e | inr l ↦ absurd l ])
-            (subst (In z) (sym (append_assoc said (said_by me (led_so_far r)) (y ∷ []))) i))
+        (λ j. elim j as (λ _. In z (y ∷ said_so_far r)) [ inl e ↦ inl e | inr l ↦ absurd l ])
+        (subst (In z) (sym (append_assoc said (said_by me (led_so_far r)) (y ∷ []))) i))
         (λ z i. subst (In z) (append_assoc said (said_by me (led_so_far r)) (y ∷ [])) (elim i as (λ _. In z (said_so_far r ++ y ∷ [])) [
           | inl e ↦ In-behind z (said_so_far r) (y ∷ []) (inl e)
           | inr j ↦ In-front z (said_so_far r) (y ∷ []) j
@@ -208,12 +208,12 @@ module _ (txn : TxnNo) (by : Session) (m : ToLead) (me : ℕ) (said : List Agree
   rounds_locked (p ∷ ps) number r parts at voted mine h =
       rounds_locked ps (number + 1) (part_round txn number by p r)
       (λ i q e. subst (λ n. slice_get (parts_in m) n ≡ Some q) (let s : number + suc i ≡ (number + 1) + i = omega arith in s)
-          (parts (suc i) q e))
+      (parts (suc i) q e))
       (round_at txn number by p r ∙ ap (λ n. n + 1) at) (round_votes txn number by p r ∙ ap (λ n. n + 1) voted)
-          (round_me txn number by p r ∙ mine)
+      (round_me txn number by p r ∙ mine)
       (round_locked number p
-          (subst (λ n. slice_get (parts_in m) n ≡ Some p) (let s : number + 0 ≡ number = omega arith in s)
-          (parts 0 p refl)) r at voted mine h)
+      (subst (λ n. slice_get (parts_in m) n ≡ Some p) (let s : number + 0 ≡ number = omega arith in s)
+      (parts 0 p refl)) r at voted mine h)
 
 -- ## What is sent
 
@@ -236,11 +236,14 @@ asks_undecided k to txn number by p sent none key at effects i =
     let ask : Told = told_with k to (key_of txn number, Prepare (record { session = by; part = p })) in
     In-both (word_to key at (Decide effects)) (telling_of (in_flight_from k sent)) (ask ∷ []) ⊥ (none key at effects)
     (λ j. elim j as
-        (λ _. ⊥) [ inl e ↦ let wrong : Decide effects ≡ Prepare (record { session = by; part = p }) = ap (λ (x : Told). x.word) e in
-        absurd (cc) | inr z ↦ z ])
+    (λ _. ⊥) [
+      | inl e ↦ let wrong : Decide effects ≡ Prepare (record { session = by; part = p }) = ap (λ (x : Told). x.word) e in
+          absurd (cc)
+      | inr z ↦ z
+    ])
     (subst (In (word_to key at (Decide effects)))
-        (ap telling_of (sent_append k sent (to_server to (ask_for txn number by p) ∷ []))
-        ∙ filter_map-append told_in (in_flight_from k sent) _) i)
+    (ap telling_of (sent_append k sent (to_server to (ask_for txn number by p) ∷ []))
+    ∙ filter_map-append told_in (in_flight_from k sent) _) i)
 
 -- ## What stays
 
@@ -250,8 +253,11 @@ rounds_rows_stay txn number by [] r row t i e = i
 rounds_rows_stay txn number by (p ∷ ps) r row t i e =
     rounds_rows_stay txn (number + 1) by ps (part_round txn number by p r) row t
     (elim (is_mine r.server p.file) as
-        (λ b. In row (round_by txn number by p r b).server.rows) [ true ↦
-        voted_stay (vote_here r.server by p) txn p.uses r.server.rows row t i e | false ↦ i ])
+    (λ b. In row (round_by txn number by p r b).server.rows) [
+      | true ↦
+          voted_stay (vote_here r.server by p) txn p.uses r.server.rows row t i e
+      | false ↦ i
+    ])
     e
 
 pub rounds_undecided : (k : ℕ) (txn : TxnNo) (number : ℕ) (by : Session) (ps : List Part) (r : Round) → NoDecision k r.send
@@ -259,5 +265,8 @@ pub rounds_undecided : (k : ℕ) (txn : TxnNo) (number : ℕ) (by : Session) (ps
 rounds_undecided k txn number by [] r none = none
 rounds_undecided k txn number by (p ∷ ps) r none = rounds_undecided k txn (number + 1) by ps (part_round txn number by p r)
     (elim (is_mine r.server p.file) as
-        (λ b. NoDecision k (round_by txn number by p r b).send) [ true ↦ none | false ↦
-        asks_undecided k (server_of r.server.map p.file) txn number by p r.send none ])
+    (λ b. NoDecision k (round_by txn number by p r b).send) [
+      | true ↦ none
+      | false ↦
+          asks_undecided k (server_of r.server.map p.file) txn number by p r.send none
+    ])

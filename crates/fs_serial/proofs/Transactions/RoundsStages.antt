@@ -43,9 +43,9 @@ rounds_server txn number by [] r = refl
 rounds_server txn number by (p ∷ ps) r =
     rounds_server txn (number + 1) by ps (part_round txn number by p r)
     ∙ elim (is_mine r.server p.file) as
-        (λ b. (let s : Server = record
-        (round_by txn number by p r b).server { rows = (rounds txn (number + 1) by ps (part_round txn number by p r)).server.rows } in s)
-        ≡ (let s : Server = record r.server { rows = (rounds txn (number + 1) by ps (part_round txn number by p r)).server.rows } in s)) [
+    (λ b. (let s : Server = record
+    (round_by txn number by p r b).server { rows = (rounds txn (number + 1) by ps (part_round txn number by p r)).server.rows } in s)
+    ≡ (let s : Server = record r.server { rows = (rounds txn (number + 1) by ps (part_round txn number by p r)).server.rows } in s)) [
       | true ↦ refl
       | false ↦ refl
     ]
@@ -55,7 +55,7 @@ pub rounds_at : (txn : TxnNo) (number : ℕ) (by : Session) (ps : List Part) (r 
 rounds_at txn number by [] r = omega arith
 rounds_at txn number by (p ∷ ps) r =
     let rest : length (rounds txn (number + 1) by ps (part_round txn number by p r)).at
-        ≡ length (part_round txn number by p r).at + length ps = rounds_at txn (number + 1) by ps (part_round txn number by p r) in
+    ≡ length (part_round txn number by p r).at + length ps = rounds_at txn (number + 1) by ps (part_round txn number by p r) in
     let one : length (part_round txn number by p r).at ≡ length r.at + 1 = round_at txn number by p r in
     rest ∙ ap (λ n. n + length ps) one ∙ (let e : (length r.at + 1) + length ps ≡ length r.at + length (p ∷ ps) = omega arith in e)
 
@@ -64,7 +64,7 @@ pub rounds_votes : (txn : TxnNo) (number : ℕ) (by : Session) (ps : List Part) 
 rounds_votes txn number by [] r = omega arith
 rounds_votes txn number by (p ∷ ps) r =
     let rest : length (rounds txn (number + 1) by ps (part_round txn number by p r)).votes
-        ≡ length (part_round txn number by p r).votes + length ps = rounds_votes txn (number + 1) by ps (part_round txn number by p r) in
+    ≡ length (part_round txn number by p r).votes + length ps = rounds_votes txn (number + 1) by ps (part_round txn number by p r) in
     let one : length (part_round txn number by p r).votes ≡ length r.votes + 1 = round_votes txn number by p r in
     rest ∙ ap (λ n. n + length ps) one ∙ (let e : (length r.votes + 1) + length ps ≡ length r.votes + length (p ∷ ps) = omega arith in e)
 
@@ -124,8 +124,13 @@ module _ (k : ℕ) (txn : TxnNo) (by : Session) (m : ToLead) (old : Desks) (own 
 
   abbrev pub desks_with : Round → Desks
   desks_with r =
-      record { parts = parts_with; stages = stages_with r.votes r.at; prepared = old.prepared; telling =
-      old.telling ++ telling_of (in_flight_from k r.send) }
+      record {
+        parts = parts_with;
+        stages = stages_with r.votes r.at;
+        prepared = old.prepared;
+        telling =
+            old.telling ++ telling_of (in_flight_from k r.send);
+      }
 
   -- nobody is asked yet
   pub none_asked : (s : Server) → StagesHold old → StagesHold (desks_with (record { server = s; votes = []; at = []; send = [] }))
@@ -134,14 +139,14 @@ module _ (k : ℕ) (txn : TxnNo) (by : Session) (m : ToLead) (old : Desks) (own 
       (λ b. same_txn y.txn txn ≡ b → IsStage y (cond b (wanted_at (slice_get (parts_in m) y.part) (old.parts y)) (old.parts y))
       (cond b (stage_by (slice_get [] y.part) (slice_get [] y.part)) (old.stages y)) (λ j. old.prepared j y)
       (told_of y (old.telling ++ []))) [
-    | true ↦ λ e.
-        let q : (told_of y old.telling ≡ []) × IsNowhere (λ j. old.prepared j y) = subst
+        | true ↦ λ e.
+            let q : (told_of y old.telling ≡ []) × IsNowhere (λ j. old.prepared j y) = subst
             (λ x. IsStage y (old.parts y) x (λ j. old.prepared j y) (told_of y old.telling)) (new y e) (h y) in
-        (ap (told_of y) (append-nil old.telling) ∙ q.0, q.1)
-    | false ↦
-        λ e. subst (λ xs. IsStage y (old.parts y) (old.stages y) (λ j. old.prepared j y) (told_of y xs)) (sym (append-nil old.telling))
-        (h y)
-  ] refl
+            (ap (told_of y) (append-nil old.telling) ∙ q.0, q.1)
+        | false ↦
+            λ e. subst (λ xs. IsStage y (old.parts y) (old.stages y) (λ j. old.prepared j y) (told_of y xs)) (sym (append-nil old.telling))
+            (h y)
+      ] refl
 
   module _ (number : ℕ) (p : Part) (part : slice_get (parts_in m) number ≡ Some p) (r : Round) (at : length r.at ≡ number)
       (voted : length r.votes ≡ number) where
@@ -159,8 +164,11 @@ module _ (k : ℕ) (txn : TxnNo) (by : Session) (m : ToLead) (old : Desks) (own 
     same_parts : (y : Key) → parts_with y ≡ with_key key wanted parts_with y
     same_parts y =
         elim (same_key y key) as
-        (λ b. same_key y key ≡ b → parts_with y ≡ cond b wanted (parts_with y)) [ true ↦
-        λ e. ap parts_with (key_is y key e) ∙ wanted_is | false ↦ λ e. refl ] refl
+        (λ b. same_key y key ≡ b → parts_with y ≡ cond b wanted (parts_with y)) [
+          | true ↦
+              λ e. ap parts_with (key_is y key e) ∙ wanted_is
+          | false ↦ λ e. refl
+        ] refl
 
     unknown : stages_with r.votes r.at key ≡ Unknown
     unknown =
@@ -193,7 +201,7 @@ module _ (k : ℕ) (txn : TxnNo) (by : Session) (m : ToLead) (old : Desks) (own 
     own_stands mine here h =
         let v : Vote = vote_here r.server by p in
         let counted : stage_of txn.server v ≡ Counted r.server.me v =
-            stage_counted txn.server v (counts_here r.server by p here) ∙ ap (λ n. Counted n v) (own ∙ sym mine) in
+        stage_counted txn.server v (counts_here r.server by p here) ∙ ap (λ n. Counted n v) (own ∙ sym mine) in
         stand_alike (after_own key wanted v (desks_with r)) (desks_with (own_part txn p v r)) (record {
           parts = same_parts;
           stages = λ y. one_stage r.server.me (Some v) y ∙ ap (λ x. with_key key x (stages_with r.votes r.at) y) (sym counted);
@@ -209,7 +217,7 @@ module _ (k : ℕ) (txn : TxnNo) (by : Session) (m : ToLead) (old : Desks) (own 
         let apart : (to == txn.server) ≡ false = ap (λ n. to == n) (own ∙ sym mine) ∙ away in
         let ask : Told = record { from = k; to = to; key = key; word = Prepare wanted } in
         let is : ask ≡ word_to key to (Prepare wanted) =
-            ap (λ n. let w : Told = record { from = n; to = to; key = key; word = Prepare wanted } in w) (sym own) in
+        ap (λ n. let w : Told = record { from = n; to = to; key = key; word = Prepare wanted } in w) (sym own) in
         stand_alike (after_ask key to wanted (desks_with r)) (desks_with (asked_part txn number by p to r)) (record {
           parts = same_parts;
           stages = one_stage to None;
@@ -217,7 +225,7 @@ module _ (k : ℕ) (txn : TxnNo) (by : Session) (m : ToLead) (old : Desks) (own 
           telling =
               ap (λ fs. old.telling ++ telling_of fs) (sent_append k r.send (to_server to (ask_for txn number by p) ∷ []))
               ∙ ap (λ ws. old.telling ++ ws)
-                  (telling_append (in_flight_from k r.send) (in_flight_from k (to_server to (ask_for txn number by p) ∷ [])))
+              (telling_append (in_flight_from k r.send) (in_flight_from k (to_server to (ask_for txn number by p) ∷ [])))
               ∙ sym (append_assoc old.telling (telling_of (in_flight_from k r.send)) (ask ∷ []))
               ∙ ap (λ w. (old.telling ++ telling_of (in_flight_from k r.send)) ++ w ∷ []) is;
         }) (asks (desks_with r) key to wanted h unknown apart)
@@ -225,9 +233,9 @@ module _ (k : ℕ) (txn : TxnNo) (by : Session) (m : ToLead) (old : Desks) (own 
     round_stands : r.server.me ≡ k → StagesHold (desks_with r) → StagesHold (desks_with (part_round txn number by p r))
     round_stands mine h =
         elim (is_mine r.server p.file) as (λ b. is_mine r.server p.file ≡ b → StagesHold (desks_with (round_by txn number by p r b))) [
-      | true ↦ λ here. own_stands mine here h
-      | false ↦ λ away. asked_stands mine away h
-    ] refl
+          | true ↦ λ here. own_stands mine here h
+          | false ↦ λ away. asked_stands mine away h
+        ] refl
 
   pub rounds_stand : (ps : List Part) (number : ℕ) (r : Round)
       → ((i : ℕ) (p : Part) → slice_get ps i ≡ Some p → slice_get (parts_in m) (number + i) ≡ Some p) → length r.at ≡ number
@@ -237,9 +245,9 @@ module _ (k : ℕ) (txn : TxnNo) (by : Session) (m : ToLead) (old : Desks) (own 
   rounds_stand (p ∷ ps) number r parts at voted mine h =
       rounds_stand ps (number + 1) (part_round txn number by p r)
       (λ i q e. subst (λ n. slice_get (parts_in m) n ≡ Some q) (let s : number + suc i ≡ (number + 1) + i = omega arith in s)
-          (parts (suc i) q e))
+      (parts (suc i) q e))
       (round_at txn number by p r ∙ ap (λ n. n + 1) at) (round_votes txn number by p r ∙ ap (λ n. n + 1) voted)
-          (round_me txn number by p r ∙ mine)
+      (round_me txn number by p r ∙ mine)
       (round_stands number p
-          (subst (λ n. slice_get (parts_in m) n ≡ Some p) (let s : number + 0 ≡ number = omega arith in s)
-          (parts 0 p refl)) r at voted mine h)
+      (subst (λ n. slice_get (parts_in m) n ≡ Some p) (let s : number + 0 ≡ number = omega arith in s)
+      (parts 0 p refl)) r at voted mine h)

@@ -114,7 +114,7 @@ pub leading_other : (l : Leading) (other : TxnNo) (xs : List Leading) → same_t
     → leading_of other (with_leading l xs) ≡ leading_of other xs
 leading_other l other xs h =
     none_behind (λ (x : Leading). same_txn x.leader.txn other) (without_leading l.leader.txn xs) (l ∷ [])
-        (ap (λ b. cond b (Some l) None) (txn_apart other l.leader.txn h))
+    (ap (λ b. cond b (Some l) None) (txn_apart other l.leader.txn h))
     ∙ leading_left other l.leader.txn xs h
 
 pub in_without_leading : (txn : TxnNo) (xs : List Leading) (z : Leading) → In z (without_leading txn xs)
@@ -129,9 +129,9 @@ pub in_with_leading : (l : Leading) (xs : List Leading) (z : Leading) → In z (
 in_with_leading l xs z i =
     elim (In-append z (without_leading l.leader.txn xs) (l ∷ []) i)
     as (λ _. (z ≡ l) ⊎ (In z xs × (same_txn z.leader.txn l.leader.txn ≡ false))) [
-  | inl j ↦ inr (in_without_leading l.leader.txn xs z j)
-  | inr j ↦ elim j as (λ _. (z ≡ l) ⊎ (In z xs × (same_txn z.leader.txn l.leader.txn ≡ false))) [ inl e ↦ inl e | inr k ↦ absurd k ]
-]
+      | inl j ↦ inr (in_without_leading l.leader.txn xs z j)
+      | inr j ↦ elim j as (λ _. (z ≡ l) ⊎ (In z xs × (same_txn z.leader.txn l.leader.txn ≡ false))) [ inl e ↦ inl e | inr k ↦ absurd k ]
+    ]
 
 pub leading_stays : (txn : TxnNo) (xs : List Leading) (z : Leading) → In z xs → same_txn z.leader.txn txn ≡ false
     → In z (without_leading txn xs)
@@ -158,21 +158,21 @@ ending_left other txn xs h =
 pub ending_set : (x : Ending) (xs : List Ending) → is_some (slice_get x.awaits 0) ≡ true → ending_of x.txn (with_ending x xs) ≡ Some x
 ending_set x xs h =
     found_behind (λ (y : Ending). same_txn y.txn x.txn) (without_ending x.txn xs) (cond (is_some (slice_get x.awaits 0)) (x ∷ []) [])
-        (ending_gone x.txn xs)
+    (ending_gone x.txn xs)
     ∙ ap (λ b. ending_of x.txn (cond b (x ∷ []) [])) h
     ∙ ap (λ b. cond b (Some x) None) (txn_itself x.txn)
 
 pub ending_over : (x : Ending) (xs : List Ending) → is_some (slice_get x.awaits 0) ≡ false → ending_of x.txn (with_ending x xs) ≡ None
 ending_over x xs h =
     found_behind (λ (y : Ending). same_txn y.txn x.txn) (without_ending x.txn xs) (cond (is_some (slice_get x.awaits 0)) (x ∷ []) [])
-        (ending_gone x.txn xs)
+    (ending_gone x.txn xs)
     ∙ ap (λ b. ending_of x.txn (cond b (x ∷ []) [])) h
 
 pub ending_other : (x : Ending) (other : TxnNo) (xs : List Ending) → same_txn other x.txn ≡ false
     → ending_of other (with_ending x xs) ≡ ending_of other xs
 ending_other x other xs h =
     none_behind (λ (y : Ending). same_txn y.txn other) (without_ending x.txn xs) (cond (is_some (slice_get x.awaits 0)) (x ∷ []) [])
-        (no_other (is_some (slice_get x.awaits 0)))
+    (no_other (is_some (slice_get x.awaits 0)))
     ∙ ending_left other x.txn xs h
   where
     no_other : (b : Bool) → ending_of other (cond b (x ∷ []) []) ≡ None
@@ -190,9 +190,9 @@ pub in_with_ending : (x : Ending) (xs : List Ending) (z : Ending) → In z (with
     → ((z ≡ x) × (is_some (slice_get x.awaits 0) ≡ true)) ⊎ (In z xs × (same_txn z.txn x.txn ≡ false))
 in_with_ending x xs z i = elim (In-append z (without_ending x.txn xs) (cond (is_some (slice_get x.awaits 0)) (x ∷ []) []) i)
     as (λ _. ((z ≡ x) × (is_some (slice_get x.awaits 0) ≡ true)) ⊎ (In z xs × (same_txn z.txn x.txn ≡ false))) [
-  | inl j ↦ inr (in_without_ending x.txn xs z j)
-  | inr j ↦ new (is_some (slice_get x.awaits 0)) refl j
-]
+      | inl j ↦ inr (in_without_ending x.txn xs z j)
+      | inr j ↦ new (is_some (slice_get x.awaits 0)) refl j
+    ]
   where
     new : (b : Bool) → is_some (slice_get x.awaits 0) ≡ b → In z (cond b (x ∷ []) [])
         → ((z ≡ x) × (is_some (slice_get x.awaits 0) ≡ true)) ⊎ (In z xs × (same_txn z.txn x.txn ≡ false))
@@ -253,28 +253,28 @@ said_its me l y i =
     its : (x : ℕ × ℕ) → In x (own_parts me l) → In y (agreed_part l x.0 (slice_get l.leader.parts x.0)) → IsSaid me l y
     its x i j =
         elim (slice_get l.leader.parts x.0) as (λ o. slice_get l.leader.parts x.0 ≡ o → In y (agreed_part l x.0 o) → IsSaid me l y) [
-      | None ↦ λ e k. absurd k
-      | Some p ↦ λ e k. elim k as (λ _. IsSaid me l y) [
-        | inl is ↦ subst (IsSaid me l) (sym is) (record { txn = refl; session = refl; part = e; at = x.1; own = i })
-        | inr z ↦ absurd z
-      ]
-    ] refl j
+          | None ↦ λ e k. absurd k
+          | Some p ↦ λ e k. elim k as (λ _. IsSaid me l y) [
+            | inl is ↦ subst (IsSaid me l) (sym is) (record { txn = refl; session = refl; part = e; at = x.1; own = i })
+            | inr z ↦ absurd z
+          ]
+        ] refl j
 
 -- each part of the transaction that said Yes here is one of them
 pub said_so : (me : ℕ) (l : Leading) (number at : ℕ) (p : Part) → In (number, at) (own_parts me l)
     → slice_get l.leader.parts number ≡ Some p
     → In (let y : Agreed =
-        record { key = record { txn = l.leader.txn; part = number }; wanted = record { session = l.leader.session; part = p } } in y)
-        (said_by me l)
+    record { key = record { txn = l.leader.txn; part = number }; wanted = record { session = l.leader.session; part = p } } in y)
+    (said_by me l)
 said_so me l number at p i e =
     In_all (λ (x : ℕ × ℕ). agreed_part l x.0 (slice_get l.leader.parts x.0))
     (let y : Agreed =
     record { key = record { txn = l.leader.txn; part = number }; wanted = record { session = l.leader.session; part = p } } in y)
     (number, at) (own_parts me l) i
     (subst (λ o. In
-        (let y : Agreed =
-        record { key = record { txn = l.leader.txn; part = number }; wanted = record { session = l.leader.session; part = p } } in y)
-        (agreed_part l number o)) (sym e) (inl refl))
+    (let y : Agreed =
+    record { key = record { txn = l.leader.txn; part = number }; wanted = record { session = l.leader.session; part = p } } in y)
+    (agreed_part l number o)) (sym e) (inl refl))
 
 -- the parts of the transaction, among those that said Yes here
 abbrev is_left : TxnNo → Agreed → Bool
@@ -296,7 +296,7 @@ said_left me txn (l ∷ ls) = at (same_txn l.leader.txn txn) refl (said_left me 
     at : (b : Bool) → same_txn l.leader.txn txn ≡ b → flat_map (said_by me) (without_leading txn ls) ≡ without_txn txn
         (flat_map (said_by me) ls)
         → flat_map (said_by me) (cond (not b) (l ∷ without_leading txn ls) (without_leading txn ls))
-            ≡ without_txn txn (said_by me l ++ flat_map (said_by me) ls)
+        ≡ without_txn txn (said_by me l ++ flat_map (said_by me) ls)
     at true t rest =
         let front = left_front me txn l (flat_map (said_by me) ls) in
         let none = none_stay (is_left txn) (said_by me l) (left_each me txn l true t) in
@@ -334,10 +334,16 @@ pub in_kept : (xs : List Ending) (z : Kept) → In z (kept_by xs)
     → (x : Ending) × (In x xs × ((keeps_till_done x.end ≡ true) × ((z.txn ≡ x.txn) × (z.session ≡ x.session))))
 in_kept xs z i =
     let q = In-map (λ (x : Ending). let k : Kept = record { txn = x.txn; session = x.session } in k) z
-        (filter (λ (x : Ending). keeps_till_done x.end) xs) i in
-    (q.0, (In-filter (λ (x : Ending). keeps_till_done x.end) q.0 xs q.1.0,
-        (passing (λ (x : Ending). keeps_till_done x.end) xs q.0 q.1.0,
-        (ap (λ (k : Kept). k.txn) q.1.1, ap (λ (k : Kept). k.session) q.1.1))))
+    (filter (λ (x : Ending). keeps_till_done x.end) xs) i in (
+      q.0,
+      (
+        In-filter (λ (x : Ending). keeps_till_done x.end) q.0 xs q.1.0,
+        (
+          passing (λ (x : Ending). keeps_till_done x.end) xs q.0 q.1.0,
+          (ap (λ (k : Kept). k.txn) q.1.1, ap (λ (k : Kept). k.session) q.1.1),
+        ),
+      ),
+    )
 
 pub kept_there : (x : Ending) (xs : List Ending) → In x xs → keeps_till_done x.end ≡ true
     → In (let k : Kept = record { txn = x.txn; session = x.session } in k) (kept_by xs)

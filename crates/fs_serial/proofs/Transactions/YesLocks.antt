@@ -77,11 +77,24 @@ module _ (rows : List Row) (said : List Agreed) (kept : List Kept) (y : Agreed) 
       let p : Stands rows y.wanted.session u = all_stand u i in
       elim (tells_no_mode u.field) as (λ b. tells_no_mode u.field ≡ b → HasRow (cond b off on) y.wanted.session u.no u.field u.kind) [
         | true ↦
-            λ e. record { row = p.row; stands = kept_in is_off_modes p.row rows p.stands (ap tells_no_mode p.field ∙ e); number = p.number;
-            session = p.session; field = p.field; kind = p.kind }
+            λ e. record {
+              row = p.row;
+              stands = kept_in is_off_modes p.row rows p.stands (ap tells_no_mode p.field ∙ e);
+              number = p.number;
+              session = p.session;
+              field = p.field;
+              kind = p.kind;
+            }
         | false ↦
-            λ e. record { row = p.row; stands = kept_in (λ (x : Row). not (is_off_modes x)) p.row rows p.stands
-            (ap not (ap tells_no_mode p.field ∙ e)); number = p.number; session = p.session; field = p.field; kind = p.kind }
+            λ e. record {
+              row = p.row;
+              stands = kept_in (λ (x : Row). not (is_off_modes x)) p.row rows p.stands
+                  (ap not (ap tells_no_mode p.field ∙ e));
+              number = p.number;
+              session = p.session;
+              field = p.field;
+              kind = p.kind;
+            }
       ] refl
 
   free : (r : Row) → In r (off ++ on) → is_used uses r ≡ true → IsFree y r
@@ -99,7 +112,7 @@ module _ (rows : List Row) (said : List Agreed) (kept : List Kept) (y : Agreed) 
     | false ↦ λ e. elim (is_used (filter keep uses) r) as (λ b. is_used (filter keep uses) r ≡ b → b ≡ false) [
       | true ↦ λ g.
           let q : (u : Use) × (In u (filter keep uses) × (has_no u.no r ≡ true)) =
-              any_In (λ (u : Use). has_no u.no r) (filter keep uses) g in
+          any_In (λ (u : Use). has_no u.no r) (filter keep uses) g in
           let wrong : true ≡ false = sym (used_by uses q.0 r (In-filter keep q.0 uses q.1.0) q.1.1) ∙ e in
           absurd (cc)
       | false ↦ λ g. refl
@@ -129,7 +142,7 @@ module _ (rows : List Row) (said : List Agreed) (kept : List Kept) (y : Agreed) 
       (λ j.
       let q : (x : Row) × (In x on × (r ≡ row_locked t (uses_of_modes uses) x)) = In-map (row_locked t (uses_of_modes uses)) r on j in
       let o : In q.0 rows × (not (is_off_modes q.0) ≡ true) =
-          (In-filter (λ (x : Row). not (is_off_modes x)) q.0 rows q.1.0, passing (λ (x : Row). not (is_off_modes x)) rows q.0 q.1.0) in
+      (In-filter (λ (x : Row). not (is_off_modes x)) q.0 rows q.1.0, passing (λ (x : Row). not (is_off_modes x)) rows q.0 q.1.0) in
       subst (λ x. In x (rows_locked t uses rows)) (sym (q.1.1 ∙ on_locked q.0 o.0 o.1)) (In-mapped (row_locked t uses) q.0 rows o.0))
       i
 
@@ -139,11 +152,11 @@ module _ (rows : List Row) (said : List Agreed) (kept : List Kept) (y : Agreed) 
       elim (is_off_modes q.0) as (λ b. is_off_modes q.0 ≡ b → In r both) [
         | true ↦ λ e. In-front r (map (row_locked t (uses_off uses)) off) (map (row_locked t (uses_of_modes uses)) on)
             (subst (λ x. In x (map (row_locked t (uses_off uses)) off)) (off_locked q.0 q.1.0 e ∙ sym q.1.1)
-                (In-mapped (row_locked t (uses_off uses)) q.0 off (kept_in is_off_modes q.0 rows q.1.0 e)))
+            (In-mapped (row_locked t (uses_off uses)) q.0 off (kept_in is_off_modes q.0 rows q.1.0 e)))
         | false ↦ λ e. In-behind r (map (row_locked t (uses_off uses)) off) (map (row_locked t (uses_of_modes uses)) on)
             (subst (λ x. In x (map (row_locked t (uses_of_modes uses)) on)) (on_locked q.0 q.1.0 (ap not e) ∙ sym q.1.1)
-                (In-mapped (row_locked t (uses_of_modes uses)) q.0 on
-                (kept_in (λ (x : Row). not (is_off_modes x)) q.0 rows q.1.0 (ap not e))))
+            (In-mapped (row_locked t (uses_of_modes uses)) q.0 on
+            (kept_in (λ (x : Row). not (is_off_modes x)) q.0 rows q.1.0 (ap not e))))
       ] refl
 
   pub yes_locks : LocksHold (rows_locked t uses rows) (y ∷ said) kept

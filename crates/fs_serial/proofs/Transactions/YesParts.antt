@@ -37,13 +37,13 @@ yes_in n (v ∷ vs) (k ∷ ks) zero at e a =
     let place : k ≡ at = cc in
     let number : n + 0 ≡ n = omega arith in
     subst (λ b. In (n + 0, at) (cond b ((n, k) ∷ yes_from (n + 1) vs ks) (yes_from (n + 1) vs ks))) (sym (ap said_yes is))
-        (inl (ap₂ (λ (x y : ℕ). (x, y)) number (sym place)))
+    (inl (ap₂ (λ (x y : ℕ). (x, y)) number (sym place)))
 yes_in n (v ∷ vs) (k ∷ ks) (suc i) at e a =
     let next : (n + 1) + i ≡ n + suc i = omega arith in
     let rest : In (n + suc i, at) (yes_from (n + 1) vs ks) =
-        subst (λ j. In (j, at) (yes_from (n + 1) vs ks)) next (yes_in (n + 1) vs ks i at e a) in
+    subst (λ j. In (j, at) (yes_from (n + 1) vs ks)) next (yes_in (n + 1) vs ks i at e a) in
     elim (said_yes v) as
-        (λ b. In (n + suc i, at) (cond b ((n, k) ∷ yes_from (n + 1) vs ks) (yes_from (n + 1) vs ks))) [ true ↦ inr rest | false ↦ rest ]
+    (λ b. In (n + suc i, at) (cond b ((n, k) ∷ yes_from (n + 1) vs ks) (yes_from (n + 1) vs ks))) [ true ↦ inr rest | false ↦ rest ]
 
 record IsYes (n : ℕ) (vs : Votes) (ks : List ℕ) (x : ℕ × ℕ) : Type 0 where
   pub place : ℕ
@@ -65,8 +65,13 @@ yes_out n (v ∷ vs) (k ∷ ks) x i = by (said_yes v) refl (yes_out (n + 1) vs k
         → In x (cond b ((n, k) ∷ yes_from (n + 1) vs ks) (yes_from (n + 1) vs ks)) → IsYes n (v ∷ vs) (k ∷ ks) x
     by true t rest (inl e) =
         let number : n ≡ n + 0 = omega arith in
-        record { place = 0; number = ap (λ (y : ℕ × ℕ). y.0) e ∙ number; vote = ap Some (yes_said v t); asked =
-            ap (λ (y : ℕ × ℕ). Some y.1) (sym e) }
+        record {
+          place = 0;
+          number = ap (λ (y : ℕ × ℕ). y.0) e ∙ number;
+          vote = ap Some (yes_said v t);
+          asked =
+              ap (λ (y : ℕ × ℕ). Some y.1) (sym e);
+        }
     by true t rest (inr j) = later (rest j)
     by false t rest j = later (rest j)
 
@@ -83,7 +88,7 @@ pub is_said_here : (me : ℕ) (l : Leading) (y : Agreed) → In y (said_by me l)
 is_said_here me l y i =
     let q = said_its me l y i in
     let x = yes_out 0 l.leader.votes l.at (y.key.part, q.at)
-        (In-filter (λ (x : ℕ × ℕ). x.1 == me) (y.key.part, q.at) (yes_parts l) q.own) in
+    (In-filter (λ (x : ℕ × ℕ). x.1 == me) (y.key.part, q.at) (yes_parts l) q.own) in
     let place : x.place ≡ y.key.part = let e : 0 + x.place ≡ x.place = omega arith in sym (x.number ∙ e) in
     let here : q.at ≡ me = eqb-true q.at me (passing (λ (x : ℕ × ℕ). x.1 == me) (yes_parts l) (y.key.part, q.at) q.own) in
     record {
@@ -98,11 +103,11 @@ pub said_in : (me : ℕ) (l : Leading) (y : Agreed) → IsSaidHere me l y → In
 said_in me l y q =
     let number : 0 + y.key.part ≡ y.key.part = omega arith in
     let among : In (y.key.part, me) (yes_parts l) =
-        subst (λ n. In (n, me) (yes_parts l)) number (yes_in 0 l.leader.votes l.at y.key.part me q.vote q.asked) in
+    subst (λ n. In (n, me) (yes_parts l)) number (yes_in 0 l.leader.votes l.at y.key.part me q.vote q.asked) in
     subst (λ (z : Agreed). In z (said_by me l))
     (ap₂ (λ (t : TxnNo) (by : Session). let z : Agreed =
-        record { key = record { txn = t; part = y.key.part }; wanted = record { session = by; part = y.wanted.part } } in z) (sym q.txn)
-        (sym q.session))
+    record { key = record { txn = t; part = y.key.part }; wanted = record { session = by; part = y.wanted.part } } in z) (sym q.txn)
+    (sym q.session))
     (said_so me l y.key.part me y.wanted.part (kept_in (λ (x : ℕ × ℕ). x.1 == me) (y.key.part, me) (yes_parts l) among (itself me)) q.part)
 
 -- ## Among all
@@ -128,7 +133,7 @@ pub said_before : (me : ℕ) (l old : Leading) (xs : List Leading) (y : Agreed)
 said_before me l old xs y one i =
     let q = In_some (said_by me) y xs i in
     elim (same_txn (q.0).leader.txn l.leader.txn) as
-        (λ b. same_txn (q.0).leader.txn l.leader.txn ≡ b → In y (said_by me old) ⊎ In y (flat_map (said_by me) (with_leading l xs))) [
+    (λ b. same_txn (q.0).leader.txn l.leader.txn ≡ b → In y (said_by me old) ⊎ In y (flat_map (said_by me) (with_leading l xs))) [
       | true ↦ λ e. inl (subst (λ z. In y (said_by me z)) (one q.0 q.1.0 e) q.1.1)
       | false ↦ λ e. inr (In_all (said_by me) y q.0 (with_leading l xs) (leading_kept l xs q.0 q.1.0 e) q.1.1)
     ] refl
@@ -159,8 +164,8 @@ module _ (me : ℕ) (waiting : List Agreed) (xs : List Leading) (l : Leading) (n
   other_part y i =
       let q = is_said_here me l y i in
       let off : number ≡ y.key.part → ⊥ = λ e.
-          let wrong : Some None ≡ Some (Some Yes) = sym empty ∙ ap (slice_get l.leader.votes) e ∙ q.vote in
-          absurd (cc wrong) in
+      let wrong : Some None ≡ Some (Some Yes) = sym empty ∙ ap (slice_get l.leader.votes) e ∙ q.vote in
+      absurd (cc wrong) in
       record {
         txn = q.txn;
         session = q.session;
@@ -173,10 +178,10 @@ module _ (me : ℕ) (waiting : List Agreed) (xs : List Leading) (l : Leading) (n
   still_said y i = In-both y waiting (flat_map (said_by me) xs) (In y after)
       (λ j. In-front y waiting (flat_map (said_by me) (with_leading new xs)) j)
       (λ j. In-behind y waiting (flat_map (said_by me) (with_leading new xs))
-          (elim (said_before me new l xs y only_it j) as (λ _. In y (flat_map (said_by me) (with_leading new xs))) [
-            | inl r ↦ said_new me new xs y (said_in me new y (other_part y r))
-            | inr r ↦ r
-          ]))
+      (elim (said_before me new l xs y only_it j) as (λ _. In y (flat_map (said_by me) (with_leading new xs))) [
+        | inl r ↦ said_new me new xs y (said_in me new y (other_part y r))
+        | inr r ↦ r
+      ]))
       i
 
   -- any that says so now is the part that voted

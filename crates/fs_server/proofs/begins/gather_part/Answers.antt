@@ -6,7 +6,15 @@ use Rattle.fs_server.proofs.begins.gather_part.Goals as goal
 
 pub returns-in_ok-push : goal.returns-in_ok-push
 returns-in_ok-push c =
-    let new : Gathered = record { votes = c.push.new.self; at = c.push-then-is_mine.new.self; uses = c.uses_kept.new.uses; send = c.args.gathered.now.send } in
+    let new : Gathered = record {
+      votes = c.push.new.self;
+      at = c.push-then-is_mine.new.self;
+      uses = c.uses_kept.new.uses;
+      send
+          = c.args.gathered.now.send;
+    } in
     on_ok_weaker c.push-then-is_mine.result
-    (λ at. own_pushed c.args.gathered.now new c.args.txn c.args.number c.args.by c.args.part.now c.args.at.now c.in_ok-vote.vote c.me.result (sym c.is_mine.ensures ∙ c.if-is_mine.true) c.in_ok-vote.ensures c.me.ensures c.in_ok-push.ensures.ok at c.in_ok-uses_kept.ensures refl)
+    (λ at. own_pushed c.args.gathered.now new c.args.txn c.args.number c.args.by c.args.part.now c.args.at.now c.in_ok-vote.vote
+    c.me.result (sym c.is_mine.ensures ∙ c.if-is_mine.true) c.in_ok-vote.ensures c.me.ensures c.in_ok-push.ensures.ok at
+    c.in_ok-uses_kept.ensures refl)
     c.push-then-is_mine.ensures.ok
