@@ -13,4 +13,5 @@ pub mod ToldParts
 pub mod FileApart
 pub mod OwnApart
 pub mod GuardsAgain
+pub mod DecisionSeen
 pub mod CommitSeen
