@@ -1,5 +1,6 @@
 -- A leader decides: what is told, and the rows of all, whatever the decision is.
-use Rattle.std.proofs.Common.{◌≡◌, ◌==◌, ℕ, Bool, true, false, List, [], ◌∷◌, ◌++◌, append-nil, map, cond, refl, sym, ap, ap₂, ◌∙◌, inl, inr}
+use Rattle.std.proofs.Common.{◌≡◌, ◌==◌, ℕ, Bool, true, false, List, [], ◌∷◌, ◌++◌, append-nil, map, cond}
+use Rattle.std.proofs.Common.{refl, sym, ap, ap₂, ◌∙◌, inl, inr}
 use Rattle.std.specs.Prelude.{Option, Some, is_some, slice_get, slice_set}
 use Rattle.std.specs.List.{flat_map}
 use Rattle.std.proofs.lemmas.Grind.{flat_map-append}
@@ -123,7 +124,8 @@ module _ (k skew greatest : ℕ) (c : Cluster) (s : Server) (at : slice_get c.se
   pub parcels_then : parcels_of after.in_flight ≡ parcels_of c.in_flight
   parcels_then =
       parcels-append c.in_flight (in_flight_from k (tells t d out ++ ends_now out by (end_of_decision d)))
-      ∙ ap (λ ps. parcels_of c.in_flight ++ ps) (none_told k t d out (ends_now out by (end_of_decision d)) (none_now k out by (end_of_decision d)))
+      ∙ ap (λ ps. parcels_of c.in_flight ++ ps)
+          (none_told k t d out (ends_now out by (end_of_decision d)) (none_now k out by (end_of_decision d)))
       ∙ append-nil (parcels_of c.in_flight)
 
   pub led_there : led_in c.servers t ≡ Some l
@@ -171,7 +173,8 @@ module _ (k skew greatest : ℕ) (c : Cluster) (s : Server) (at : slice_get c.se
       ∙ ap (flat_map (decided_told after.servers)) telling_then
       ∙ flat_map-append (decided_told after.servers) (telling_of c.in_flight) (map (decision_word k t d) out)
       ∙ ap₂ (λ ys zs. ys ++ zs)
-          (flat_alike (decided_told after.servers) (decided_told c.servers) (telling_of c.in_flight) old_same ∙ sym (told_is c.servers c.in_flight))
+          (flat_alike (decided_told after.servers) (decided_told c.servers) (telling_of c.in_flight) old_same
+              ∙ sym (told_is c.servers c.in_flight))
           (new_told out refl)
 
   -- ## Rows

@@ -132,10 +132,12 @@ module _ (k skew greatest : ℕ) (c : Cluster) (s : Server) (at : slice_get c.se
   led_is = leads.client.led
 
   taken_here : In asks (taken_at by (Some m) s)
-  taken_here = In_all (λ (z : Leading). question_of (Some m)) asks l (filter own s.leading) (kept_in own l s.leading there (itself by.0)) (inl refl)
+  taken_here =
+      In_all (λ (z : Leading). question_of (Some m)) asks l (filter own s.leading) (kept_in own l s.leading there (itself by.0)) (inl refl)
 
   taken_some : In asks (taken_leads by (c.lines by).client.led c.servers)
-  taken_some = subst (λ o. In asks (taken_leads by o c.servers)) (sym led_is) (In_all (taken_at by (Some m)) asks s c.servers s_in taken_here)
+  taken_some = subst (λ o. In asks (taken_leads by o c.servers)) (sym led_is)
+      (In_all (taken_at by (Some m)) asks s c.servers s_in taken_here)
 
   pub its_up : (ends_in c by).up ≡ Lead (lead_of m) ∷ []
   its_up =
@@ -277,7 +279,8 @@ module _ (k skew greatest : ℕ) (c : Cluster) (s : Server) (at : slice_get c.se
   its_held : (b : Bool) → waits ≡ b
       → held by ≡ (let z : Ends = record { client = (c.lines by).client; up = []; down = cond b (its_end ∷ []) [] ++ heard } in z)
   its_held b e =
-      ap₂ (λ (us : List ClientMsg) (os : List Answer). let z : Ends = record { client = (c.lines by).client; up = us; down = os ++ heard } in z)
+      ap₂ (λ (us : List ClientMsg) (os : List Answer). let z : Ends =
+          record { client = (c.lines by).client; up = us; down = os ++ heard } in z)
       (ap₂ (λ (us : List ClientMsg) (ts : List ClientMsg). us ++ ts) asks_no_more taken_gone) (its_owed b e)
 
   others_held : (y : Session) → (by.0 == y.0) ≡ false → held y ≡ ends_in c y
@@ -298,7 +301,8 @@ module _ (k skew greatest : ℕ) (c : Cluster) (s : Server) (at : slice_get c.se
   others_then y off = then_is y ∙ now out ∙ others_held y off
     where
       now : (o : List (ℕ × ℕ)) → world.with_sent (ends_now o by (end_of_decision d)) held y ≡ held y
-      now [] = ap (λ b. let z : Ends = cond b (let w : Ends = record (held y) { down = (held y).down ++ its_end ∷ [] } in w) (held y) in z) off
+      now [] =
+          ap (λ b. let z : Ends = cond b (let w : Ends = record (held y) { down = (held y).down ++ its_end ∷ [] } in w) (held y) in z) off
       now (n ∷ ns) = refl
 
   -- where no other server has to do anything
