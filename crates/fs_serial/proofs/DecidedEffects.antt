@@ -14,3 +14,5 @@ pub mod FileApart
 pub mod OwnApart
 pub mod GuardsAgain
 pub mod CommitSeen
+pub mod RelockedWorld
+pub mod DecideSeen
