@@ -15,3 +15,5 @@ pub mod OwnApart
 pub mod GuardsAgain
 pub mod DecisionSeen
 pub mod CommitSeen
+pub mod RelockedWorld
+pub mod DecideSeen
