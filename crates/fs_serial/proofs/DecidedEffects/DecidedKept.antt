@@ -38,7 +38,7 @@ ends_owed by e ends x own = of (by.0 == x.0) refl
     of true t h = let same : by ≡ x = one_session by x t in subst (λ y. due (ends y).down ≡ []) same (own (ap (λ (y : Session). y.0 == by.0) (sym same) ∙ itself by.0) h)
     of false t h = h
 
-plan_fits : {N : Type 0} (by : Session) (rest : List Answer) (p : Plan N) (w : World) → ((d : Decided) → In d w.decided → (d.by.0 == by.0) ≡ true → due rest ≡ [] → due (w.ends by).down ≡ []) → DecidedFits w → DecidedFits (after_plan by rest p w)
+pub plan_fits : {N : Type 0} (by : Session) (rest : List Answer) (p : Plan N) (w : World) → ((d : Decided) → In d w.decided → (d.by.0 == by.0) ≡ true → due rest ≡ [] → due (w.ends by).down ≡ []) → DecidedFits w → DecidedFits (after_plan by rest p w)
 plan_fits by rest p w owed f = record {
   all = stand_later w.decided w.server w.journal (pushed p.out.admitted w.journal) (made_pushed p.out.admitted w.journal) f.all;
   owed = λ d i e. f.owed d i (ends_owed by _ w.ends d.by (λ t n. owed d i t n) e);

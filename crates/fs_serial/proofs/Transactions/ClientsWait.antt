@@ -100,7 +100,7 @@ module _ (by : Session) (c : Cluster) (one : length (ends_in c by).up + length (
       (some_length (message.Lead (lead_of d)) (taken_leads by (Some d) c.servers)
       (In_all (taken_at by (Some d)) (message.Lead (lead_of d)) s c.servers i its))
 
-  owed : (s : Server) → In s c.servers → (x : Ending) → In x s.ending → x.session ≡ by → 1 ≤ length (owed_to by c.servers)
+  pub owed : (s : Server) → In s c.servers → (x : Ending) → In x s.ending → x.session ≡ by → 1 ≤ length (owed_to by c.servers)
   owed s i x j own =
       let among : In x (filter (λ (m : Ending). m.session.0 == by.0) s.ending) = kept_in (λ (m : Ending). m.session.0 == by.0) x s.ending j
       (ap (λ (z : Session). z.0 == by.0) own ∙ itself by.0) in

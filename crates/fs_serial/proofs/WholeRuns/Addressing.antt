@@ -114,7 +114,7 @@ only_one [] to m message e = refl
 only_one (u ∷ []) to m message e = absurd (cc)
 only_one (u ∷ v ∷ us) to m message e = absurd (cc)
 
-not_none : (old : List (ℕ × ClientMsg)) (to : ℕ) (m : ClientMsg) → messages (old ++ (to, m) ∷ []) ≡ [] → ⊥
+pub not_none : (old : List (ℕ × ClientMsg)) (to : ℕ) (m : ClientMsg) → messages (old ++ (to, m) ∷ []) ≡ [] → ⊥
 not_none [] to m e = absurd (cc)
 not_none (u ∷ us) to m e = absurd (cc)
 

@@ -39,7 +39,7 @@ use Rattle.fs_serial.proofs.Lists.Traffic.{IsTaken, ends_planned, messages, mess
 
 -- ## What was made stays so
 
-made_later : (is : List Item) (o : Option Item) (id : List ℕ) → IsMade is id → IsMade (pushed o is) id
+pub made_later : (is : List Item) (o : Option Item) (id : List ℕ) → IsMade is id → IsMade (pushed o is) id
 made_later is None id h = h
 made_later is (Some i) id h = made_still is (i ∷ []) id h
 
@@ -72,10 +72,10 @@ some_server c p = server_for c.servers c.servers c.in_flight (λ s i. i) p.goes 
 -- ## A client's event as each server sees it
 
 -- the ends of a session that were replaced
-ends_here : (by : Session) (e : Ends) (ends : Session → Ends) → with_ends by e ends by ≡ e
+pub ends_here : (by : Session) (e : Ends) (ends : Session → Ends) → with_ends by e ends by ≡ e
 ends_here by e ends = ap (λ b. cond b e (ends by)) (session_itself by)
 
-ends_twice : (by : Session) (d e : Ends) (ends : Session → Ends) (x : Session) → with_ends by d (with_ends by e ends) x ≡ with_ends by d ends x
+pub ends_twice : (by : Session) (d e : Ends) (ends : Session → Ends) (x : Session) → with_ends by d (with_ends by e ends) x ≡ with_ends by d ends x
 ends_twice by d e ends x = elim (by.0 == x.0) as (λ b. cond b d (cond b e (ends x)) ≡ cond b d (ends x)) [ true ↦ refl | false ↦ refl ]
 
 -- what the client makes of an operation, where the root's kind joins the journal in place of what is read

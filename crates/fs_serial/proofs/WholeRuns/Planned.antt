@@ -1,5 +1,5 @@
 -- A client's question goes out with its exchange.
-use Rattle.std.proofs.Common.{◌≡◌, ℕ, not, ◌&&◌, ◌/◌, ◌+◌, true, false, List, [], ◌∷◌, cond, refl, ap, ◌∙◌, subst}
+use Rattle.std.proofs.Common.{◌≡◌, ℕ, not, ◌&&◌, ◌/◌, ◌+◌, true, false, List, [], ◌∷◌, ◌++◌, append-nil, cond, refl, sym, ap, ap₂, ◌∙◌, subst, inl, inr}
 use Rattle.std.specs.Prelude.{Option, Some, None, is_some}
 use Rattle.fs_ident.specs.In.{In}
 use Rattle.fs_field.specs.declared.asked.Need.{Need}
@@ -32,12 +32,14 @@ use Rattle.fs_client.specs.declared.plan.Plan.{Plan}
 use Rattle.fs_client.specs.declared.plan.Ready.{Ready}
 use Rattle.fs_client.specs.declared.state.Client.{Client}
 use Rattle.fs_serial.specs.Cluster.{Lines}
-use Rattle.fs_serial.specs.Exchange.{OneExchange, server_of_question}
+use Rattle.fs_serial.specs.Exchange.{OneExchange, due, server_of_question}
 use Rattle.fs_serial.specs.Seen.{IsAddressed}
 use Rattle.fs_serial.specs.World.{pushed}
-use Rattle.fs_serial.proofs.WholeRuns.Addressing.{addressed_still, none_asked, one_asked}
+use Rattle.fs_serial.proofs.WholeRuns.Addressing.{addressed_still, none_asked, not_none, one_asked}
 use Rattle.fs_serial.proofs.Replies.Answering.{AnswerEnds, answer_ends, as_entry, as_led, as_move, as_read, not_told, put_off}
+use Rattle.fs_serial.proofs.Lists.EachAt.{nothing_of}
 use Rattle.fs_serial.proofs.Lists.Traffic.{messages}
+use Rattle.fs_serial.proofs.Transactions.OneOfSession.{due_both}
 
 -- ## The exchange after a change
 
@@ -168,20 +170,45 @@ hear_posted from a c = elim (fits from c.exchange a c) as (λ b. IsPosted (cond 
 abbrev planned : Client → Option (ℕ × ClientMsg) → List (ℕ × ClientMsg) → List (ℕ × Answer) → Lines
 planned c sent up rest = record { client = c; up = pushed sent up; down = rest }
 
-module _ (c : Client) (l : Lines) (sent : Option (ℕ × ClientMsg)) (rest : List (ℕ × Answer)) (few : (m : ℕ × Answer) → In m rest → In m l.down) (h : IsAddressed l) where
+-- what one that stands alone is asked and told, among more
+fewer_due : (o d : List Answer) → due (o ++ d) ≡ [] → due d ≡ []
+fewer_due o d h = (nothing_of (due o) (due d) (sym (due_both o d) ∙ h)).1
+
+first_of : {X : Type 0} (a b : List X) (m : X) → (a ≡ [] → ⊥) → a ++ b ≡ m ∷ [] → a ≡ m ∷ []
+first_of [] b m some e = absurd (some refl)
+first_of (z ∷ zs) b m some e =
+    let same : z ≡ m = cc in
+    let none : zs ++ b ≡ [] = cc in
+    ap₂ (λ y ys. y ∷ ys) same (nothing_of zs b none).0
+
+fewer_asked : (c : Client) (x : Exchange) (a b : List ClientMsg) (o d : List Answer) → (a ≡ [] → ⊥) → OneExchange c (Some x) (a ++ b) (o ++ d)
+    → OneExchange c (Some x) a d
+fewer_asked c x a b o d some (inl h) = inl (record { message = h.message; asked = first_of a b h.message some h.asked; question = h.question; silent = fewer_due o d h.silent })
+fewer_asked c x a b o d some (inr h) = absurd (some (nothing_of a b h.asked).0)
+
+-- where so many more questions, and answers in front, are the session's
+module _ (c : Client) (l : Lines) (sent : Option (ℕ × ClientMsg)) (rest : List (ℕ × Answer)) (more : List ClientMsg) (front : List Answer)
+    (few : (m : ℕ × Answer) → In m rest → In m l.down) (h : IsAddressed l) where
   abbrev then : Lines
   then = planned c sent l.up rest
 
   stands : c.exchange ≡ l.client.exchange → sent ≡ None → IsAddressed then
   stands e s = addressed_still l then e (λ m i. subst (λ o. In m (pushed o l.up)) s i) few h
 
-  ends : c.exchange ≡ None → OneExchange c c.exchange (messages then.up) (messages rest) → IsAddressed then
-  ends e one = none_asked then (subst (λ x. OneExchange c x (messages then.up) (messages rest)) e one)
+  ends : c.exchange ≡ None → OneExchange c c.exchange (messages then.up ++ more) (front ++ messages rest) → IsAddressed then
+  ends e one =
+      let none = subst (λ x. OneExchange c x (messages then.up ++ more) (front ++ messages rest)) e one in
+      none_asked then ((nothing_of (messages then.up) more none.0).0, fewer_due front (messages rest) none.1)
 
-  goes : (x : Exchange) (m : ClientMsg) → c.exchange ≡ Some x → sent ≡ Some (server_of_question x, m) → OneExchange c c.exchange (messages then.up) (messages rest) → IsAddressed then
-  goes x m e s one = one_asked then x l.up m e (ap (λ o. pushed o l.up) s) (subst (λ y. OneExchange c y (messages then.up) (messages rest)) e one)
+  goes : (x : Exchange) (m : ClientMsg) → c.exchange ≡ Some x → sent ≡ Some (server_of_question x, m)
+      → OneExchange c c.exchange (messages then.up ++ more) (front ++ messages rest) → IsAddressed then
+  goes x m e s one = one_asked then x l.up m e (ap (λ o. pushed o l.up) s)
+      (fewer_asked c x (messages then.up) more front (messages rest)
+      (λ none. not_none l.up (server_of_question x) m (ap (λ o. messages (pushed o l.up)) (sym s) ∙ none))
+      (subst (λ y. OneExchange c y (messages then.up ++ more) (front ++ messages rest)) e one))
 
-  by_change : (ch : Change) → GoesWith ch sent → c.exchange ≡ exchange_after ch l.client.exchange → OneExchange c c.exchange (messages then.up) (messages rest) → IsAddressed then
+  by_change : (ch : Change) → GoesWith ch sent → c.exchange ≡ exchange_after ch l.client.exchange
+      → OneExchange c c.exchange (messages then.up ++ more) (front ++ messages rest) → IsAddressed then
   by_change change.Nothing g e one = stands e g
   by_change change.Read g e one = stands e g
   by_change (change.Reply entry effects) g e one = stands e g
@@ -196,7 +223,17 @@ module _ (c : Client) (l : Lines) (sent : Option (ℕ × ClientMsg)) (rest : Lis
   by_change change.LedFreed g e one = ends e one
   by_change (change.Recall number) g e one = stands e g
 
+pub addressed_among : {N : Type 0} (p : Plan N) (l : Lines) (rest : List (ℕ × Answer)) (more : List ClientMsg) (front : List Answer)
+    → ((m : ℕ × Answer) → In m rest → In m l.down) → IsPosted p
+    → OneExchange (committed p.ready l.client) (committed p.ready l.client).exchange (messages (pushed p.out.send l.up) ++ more)
+        (front ++ messages rest)
+    → IsAddressed l → IsAddressed (record { client = committed p.ready l.client; up = pushed p.out.send l.up; down = rest })
+addressed_among p l rest more front few posted one h =
+    by_change (committed p.ready l.client) l p.out.send rest more front few h p.ready.change posted (committed_exchange p.ready l.client) one
+
 pub plan_addressed : {N : Type 0} (p : Plan N) (l : Lines) (rest : List (ℕ × Answer)) → ((m : ℕ × Answer) → In m rest → In m l.down) → IsPosted p
     → OneExchange (committed p.ready l.client) (committed p.ready l.client).exchange (messages (pushed p.out.send l.up)) (messages rest)
     → IsAddressed l → IsAddressed (record { client = committed p.ready l.client; up = pushed p.out.send l.up; down = rest })
-plan_addressed p l rest few posted one h = by_change (committed p.ready l.client) l p.out.send rest few h p.ready.change posted (committed_exchange p.ready l.client) one
+plan_addressed p l rest few posted one = addressed_among p l rest [] [] few posted
+    (subst (λ ms. OneExchange (committed p.ready l.client) (committed p.ready l.client).exchange ms (messages rest))
+    (sym (append-nil (messages (pushed p.out.send l.up)))) one)
