@@ -32,6 +32,7 @@ pub mod PutOff
 pub mod Aborted
 pub mod OtherEvents
 pub mod OtherSteps
+pub mod ClientsStand
 pub mod PlacesAfter
 pub mod YesElsewhere
 pub mod DecisionPlaces

@@ -1,9 +1,9 @@
 -- Every event of a client keeps all that holds of the cluster, while transactions are on their way.
 use mathlib.Core.Path.{fun_ext}
 use Rattle.std.proofs.Common.{◌≡◌, ◌==◌, ◌+◌, ◌≤◌, ℕ, Bool, not, true, false, List, [], ◌∷◌, ◌++◌, length, map, filter, cond}
-use Rattle.std.proofs.Common.{append_assoc, append-nil, refl, sym, ap, ap₂, ◌∙◌, subst, inl, inr, length-append, arith}
+use Rattle.std.proofs.Common.{append_assoc, refl, sym, ap, ap₂, ◌∙◌, subst, inl, inr, length-append, arith}
 use Rattle.std.specs.Prelude.{Option, Some, None, slice_get}
-use Rattle.std.specs.List.{find, flat_map}
+use Rattle.std.specs.List.{flat_map}
 use Rattle.fs_ident.specs.In.{In}
 use Rattle.fs_ident.specs.declared.actor.Session.{Session}
 use Rattle.fs_ident.specs.declared.actor.TxnNo.{TxnNo}
@@ -14,6 +14,7 @@ use Rattle.fs_field.specs.Table.{same_txn}
 use Rattle.fs_model.specs.declared.op.Op.{Op}
 use Rattle.fs_msg.specs.declared.answer.Answer.{Answer}
 use Rattle.fs_msg.specs.declared.client_msg.ClientMsg.{ClientMsg}
+use Rattle.fs_msg.specs.declared.client_note.ClientNote.{ClientNote}
 use Rattle.fs_parcel.proofs.Both.{passing}
 use Rattle.fs_client.specs.Acts.{act_plan}
 use Rattle.fs_client.specs.Answers.{answer_plan}
@@ -31,13 +32,13 @@ use Rattle.fs_txn.specs.declared.leading.Leading.{Leading}
 use Rattle.fs_txn.proofs.Keys.{kept_in}
 use Rattle.fs_serial.specs.Cluster.{CanCome, ClientEvent, Cluster, Lines, after_client, after_plan, is_with, with_lines, without_first}
 use Rattle.fs_serial.specs.Cluster.ClientEvent.{Does, Turns, Hears}
-use Rattle.fs_serial.specs.Decided.{DecidedFits, WorldStands}
+use Rattle.fs_serial.specs.Decided.{WorldStands}
 use Rattle.fs_serial.specs.Exchange.{OneExchange, asked_server, due, is_recall}
 use Rattle.fs_serial.specs.Leading.{IsLedBy, LeavesLedClient, LedHolds}
 use Rattle.fs_serial.specs.Meanwhile.{ClusterStands, world_meanwhile}
 use Rattle.fs_serial.specs.Owed.{ends_in, ends_with, owed_to, question_of, taken_leads}
 use Rattle.fs_serial.specs.Seen.{IsAddressed, counts_of, with_all}
-use Rattle.fs_serial.specs.Words.{decided_in, ended_in, ending_at}
+use Rattle.fs_serial.specs.Words.{decided_in, ending_at}
 use Rattle.fs_serial.specs.World.{Ends, World, WorldHolds, is_called, message_in, pushed, told_by, with_ends, with_told}
 use Rattle.fs_serial.specs.World as world
 use Rattle.fs_serial.proofs.ClientMessages.Reordered.{reordered, with_first}
@@ -105,7 +106,8 @@ module _ (c : Cluster) (by : Session) where
       (map_none (λ (z : Leading). z.leader.txn) (filter (λ (z : Leading). z.leader.session.0 == by.0) s.leading) q.0))
       (none_led ss q.1 o)
 
-  taken_still : LedHolds c → (later : Session → Lines) → LeavesLedClient by c later → taken_for (later by).client.led ≡ taken_for l.client.led
+  taken_still : LedHolds c → (later : Session → Lines) → LeavesLedClient by c later
+      → taken_for (later by).client.led ≡ taken_for l.client.led
   taken_still held later waits = by_list (flat_map (leads_at by) c.servers) refl
     where
       by_list : (ts : List TxnNo) → flat_map (leads_at by) c.servers ≡ ts → taken_for (later by).client.led ≡ taken_for l.client.led
@@ -137,7 +139,8 @@ module _ (c : Cluster) (by : Session) where
     abbrev after : Cluster
     after = after_plan by rest p c
 
-    module _ (held : LedHolds c) (waits : LeavesLedClient by c after.lines) (one : OneExchange new.client new.client.exchange new.up new.down) where
+    module _ (held : LedHolds c) (waits : LeavesLedClient by c after.lines)
+        (one : OneExchange new.client new.client.exchange new.up new.down) where
       still : taken_for (committed p.ready l.client).led ≡ taken_for l.client.led
       still = ap (λ (z : Lines). taken_for z.client.led) (sym (ap (λ b. let z : Lines = cond b then l in z) (session_itself by)))
           ∙ taken_still held after.lines waits
@@ -145,31 +148,31 @@ module _ (c : Cluster) (by : Session) where
       up_same : messages (pushed p.out.send l.up) ++ taken_for (committed p.ready l.client).led ≡ new.up
       up_same = ap (λ ts. messages (pushed p.out.send l.up) ++ ts) still ∙ by_sent p.out.send one
         where
-          abbrev t : List ClientMsg
-          t = taken_for l.client.led
-
           by_sent : (o : Option (ℕ × ClientMsg))
-              → OneExchange new.client new.client.exchange (pushed (message_in o) (messages l.up ++ t)) new.down
-              → messages (pushed o l.up) ++ t ≡ pushed (message_in o) (messages l.up ++ t)
+              → OneExchange new.client new.client.exchange (pushed (message_in o) (messages l.up ++ taken_for l.client.led)) new.down
+              → messages (pushed o l.up) ++ taken_for l.client.led ≡ pushed (message_in o) (messages l.up ++ taken_for l.client.led)
           by_sent None h = refl
           by_sent (Some m) h =
-              let none : messages l.up ++ t ≡ [] = none_before new.client new.client.exchange (messages l.up ++ t) m.1 new.down h in
-              let both = nothing_of (messages l.up) t none in
-              ap (λ ms. ms ++ t) (messages_append l.up (m ∷ []))
+              let none : messages l.up ++ taken_for l.client.led ≡ [] =
+                  none_before new.client new.client.exchange (messages l.up ++ taken_for l.client.led) m.1 new.down h in
+              let both = nothing_of (messages l.up) (taken_for l.client.led) none in
+              ap (λ ms. ms ++ taken_for l.client.led) (messages_append l.up (m ∷ []))
               ∙ ap₂ (λ (ms : List ClientMsg) (ts : List ClientMsg). (ms ++ m.1 ∷ []) ++ ts) both.0 both.1
               ∙ sym (ap (λ ms. ms ++ m.1 ∷ []) none)
 
       ends_planned : (y : Session) → ends_in after y ≡ with_ends by new (ends_in c) y
       ends_planned y = elim (by.0 == y.0) as
-          (λ b. (by.0 == y.0) ≡ b → ends_with y c.servers (let z : Lines = cond b then (c.lines y) in z) ≡ (let z : Ends = cond b new (ends_in c y) in z)) [
+          (λ b. (by.0 == y.0) ≡ b → ends_with y c.servers (let z : Lines = cond b then (c.lines y) in z)
+          ≡ (let z : Ends = cond b new (ends_in c y) in z)) [
         | true ↦ λ e. subst (λ z. ends_with z c.servers then ≡ new) (one_session by y e)
             (ap (λ u. let z : Ends = record { client = committed p.ready l.client; up = u; down = its_owed ++ messages rest } in z) up_same)
         | false ↦ λ e. refl
       ] refl
 
-    module _ (skew greatest : ℕ) (h : ClusterStands skew greatest c) (few : (m : ℕ × Answer) → In m rest → In m l.down) (posted : IsPosted p)
-        (waits : LeavesLedClient by c after.lines) (led : LedHolds after)
-        (seen : (s : Server) → In s c.servers → WorldStands greatest (world.after_plan by (its_owed ++ messages rest) p (world_meanwhile s c))) where
+    module _ (skew greatest : ℕ) (h : ClusterStands skew greatest c) (few : (m : ℕ × Answer) → In m rest → In m l.down)
+        (posted : IsPosted p) (waits : LeavesLedClient by c after.lines) (led : LedHolds after)
+        (seen : (s : Server) → In s c.servers
+        → WorldStands greatest (world.after_plan by (its_owed ++ messages rest) p (world_meanwhile s c))) where
       one : OneExchange new.client new.client.exchange new.up new.down
       one =
           let q = some_server c h.places in
@@ -219,7 +222,8 @@ module _ (skew greatest : ℕ) (c : Cluster) (by : Session) (h : ClusterStands s
       (λ s i. (turn_keeps greatest now (world_meanwhile s c) by (h.parts s i).0,
           client_fits now (world_meanwhile s c) by world.Turns tt tt (h.parts s i).1))
 
-  pub does_stands : (now : ℕ) (o : Op) → is_called o ≡ true → greatest ≤ now + skew → ClusterStands skew greatest (after_client by now (Does o) c)
+  pub does_stands : (now : ℕ) (o : Op) → is_called o ≡ true → greatest ≤ now + skew
+      → ClusterStands skew greatest (after_client by now (Does o) c)
   does_stands now o called within =
       plan_stands c by lines.down (act_plan lines.client now o) skew greatest h (λ m i. i)
           (act_posted lines.client.over o (begun now lines.client)) (client_waits by c few_one now (Does o) called)
@@ -229,3 +233,135 @@ module _ (skew greatest : ℕ) (c : Cluster) (by : Session) (h : ClusterStands s
             (subst (λ n. greatest ≤ now + n) (sym (h.skewed s i)) within),
         client_fits now (world_meanwhile s c) by (world.Does o) called tt (h.parts s i).1,
       ))
+
+  -- ## An answer, which may have overtaken those of other servers
+
+  module _ (from : ℕ) (a : Answer) (can : CanCome by (Hears from a) c) where
+    coming : In (from, a) lines.down
+    coming = (found (is_with from) lines.down (from, a) can).0
+
+    taken : IsTaken (is_with from) lines.down (from, a)
+    taken = taken_first (is_with from) lines.down (from, a) can
+
+    abbrev front : List Answer
+    front = its ++ messages taken.front
+
+    abbrev back : List Answer
+    back = messages taken.back
+
+    abbrev rest : List (ℕ × Answer)
+    rest = without_first (is_with from) lines.down
+
+    order : (ends_in c by).down ≡ front ++ a ∷ back
+    order =
+        ap (λ ms. its ++ ms) (ap messages taken.whole ∙ messages_append taken.front ((from, a) ∷ taken.back))
+        ∙ sym (append_assoc its (messages taken.front) (a ∷ back))
+
+    left : its ++ messages rest ≡ front ++ back
+    left =
+        ap (λ (ms : List (ℕ × Answer)). its ++ messages ms) taken.left
+        ∙ ap (λ ms. its ++ ms) (messages_append taken.front taken.back)
+        ∙ sym (append_assoc its (messages taken.front) back)
+
+    -- a session for which something is decided is owed the answer, and no other is due to it
+    some_owed : (txn : TxnNo) (o : Option Server) → slice_get c.servers txn.server ≡ o → (x : Ending) → ending_of txn (ending_at o) ≡ Some x
+        → x.session ≡ by → 1 ≤ length its
+    some_owed txn None e x f own = absurd (cc f)
+    some_owed txn (Some z) e x f own =
+        owed by c few_one z (In-got c.servers txn.server z e) x (found (λ (y : Ending). same_txn y.txn txn) z.ending x f).0 own
+
+    none_decided : is_recall a ≡ false → (d : Decided) → In d (decided_in c) → (d.by.0 == by.0) ≡ true → ⊥
+    none_decided e d i same =
+        let q = deciding_in c.servers c.in_flight d i in
+        let txn : TxnNo = (q.1.1).message.txn in
+        let more : 1 ≤ length its = some_owed txn (slice_get c.servers txn.server) refl (q.1.1).ending (q.1.1).ended
+            (sym (q.1.1).session ∙ one_session d.by by same) in
+        let heard : List Answer = messages lines.down in
+        let down : length (due (ends_in c by).down) ≡ length its + length (due heard) =
+            ap length (due_both its heard ∙ ap (λ ys. ys ++ due heard) (all_owed_due by c.servers)) ∙ length-append its (due heard) in
+        let told : 1 ≤ length (due heard) = some_length a (due heard) (kept_in (λ (x : Answer). not (is_recall x)) a heard
+            (In-mapped (λ (m : ℕ × Answer). m.1) (from, a) lines.down coming) (ap not e)) in
+        let one : length (ends_in c by).up + length (due (ends_in c by).down) ≤ 1 = few_one in
+        absurd (omega (arith, one, down, told, more))
+
+    module _ (now : ℕ) (s : Server) (i : In s c.servers) where
+      abbrev w : World
+      w = world_meanwhile s c
+
+      abbrev its_ends : Ends
+      its_ends = record { client = lines.client; up = (ends_in c by).up; down = a ∷ (front ++ back) }
+
+      abbrev first : World
+      first = with_first by (a ∷ (front ++ back)) w
+
+      abbrev plan : Plan ClientNote
+      plan = answer_plan lines.client now from a
+
+      first_holds : WorldHolds greatest first
+      first_holds = reordered greatest w by front back a order (h.parts s i).0
+
+      here : first.ends by ≡ its_ends
+      here = ends_here by its_ends (ends_in c)
+
+      -- where the session's ends before it were these
+      abbrev heard : Ends → (Session → Ends) → World
+      heard e before =
+          let p = answer_plan e.client now from a in
+          record {
+            server = with_all s c;
+            counts = counts_of c.servers;
+            decided = decided_in c;
+            journal = pushed p.out.admitted c.journal;
+            replied = with_told by (told_by by p.ready.change p.out.admitted) c.replied;
+            ends = with_ends by
+                (record { client = committed p.ready e.client; up = pushed (message_in p.out.send) e.up; down = front ++ back }) before;
+          }
+
+      heard_holds : WorldHolds greatest (heard its_ends first.ends)
+      heard_holds = subst (λ (e : Ends). WorldHolds greatest (heard e first.ends)) here
+          (hear_keeps greatest now first by first_holds from a (front ++ back) (ap (λ (e : Ends). e.down) here)
+          (λ d. ap (λ (e : Ends). asked_server e.client.exchange) here ∙ (h.addressed by).down (from, a) coming d))
+
+      seen_holds : WorldHolds greatest (world.after_plan by (its ++ messages rest) plan w)
+      seen_holds =
+          let d : Ends = record {
+            client = committed plan.ready lines.client;
+            up = pushed (message_in plan.out.send) (ends_in c by).up;
+            down = front ++ back;
+          } in
+          subst (λ down. WorldHolds greatest (world.after_plan by down plan w)) (sym left)
+          (subst (λ (es : Session → Ends). WorldHolds greatest (record {
+            server = with_all s c;
+            counts = counts_of c.servers;
+            decided = decided_in c;
+            journal = pushed plan.out.admitted c.journal;
+            replied = with_told by (told_by by plan.ready.change plan.out.admitted) c.replied;
+            ends = es;
+          })) (fun_ext (ends_twice by d its_ends (ends_in c))) heard_holds)
+
+      still_due : (d : Decided) → In d (decided_in c) → (d.by.0 == by.0) ≡ true → due (its ++ messages rest) ≡ []
+          → due (ends_in c by).down ≡ []
+      still_due d j same none = by_kind (is_recall a) refl
+        where
+          by_kind : (b : Bool) → is_recall a ≡ b → due (ends_in c by).down ≡ []
+          by_kind true e =
+              ap due order ∙ due_both front (a ∷ back)
+              ∙ ap (λ (b : Bool). due front ++ cond (not b) (a ∷ due back) (due back)) e
+              ∙ sym (due_both front back) ∙ ap due (sym left) ∙ none
+          by_kind false e = absurd (none_decided e d j same)
+
+      seen_hears : WorldStands greatest (world.after_plan by (its ++ messages rest) plan w)
+      seen_hears = (seen_holds, plan_fits by (its ++ messages rest) plan w still_due (h.parts s i).1)
+
+    pub hears_stands : (now : ℕ) → ClusterStands skew greatest (after_client by now (Hears from a) c)
+    hears_stands now =
+        plan_stands c by rest (answer_plan lines.client now from a) skew greatest h
+            (λ m i. In_without (is_with from) lines.down m i) (hear_posted from a (begun now lines.client))
+            (client_waits by c few_one now (Hears from a) can) (waiting_keeps_led by now (Hears from a) c h.led few_one can)
+            (λ s i. seen_hears now s i)
+
+  pub client_stands : (now : ℕ) (e : ClientEvent) → CanCome by e c → greatest ≤ now + skew
+      → ClusterStands skew greatest (after_client by now e c)
+  client_stands now (Does o) can within = does_stands now o can within
+  client_stands now Turns can within = turn_stands now
+  client_stands now (Hears from a) can within = hears_stands from a can now

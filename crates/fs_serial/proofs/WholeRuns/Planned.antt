@@ -181,9 +181,14 @@ first_of (z ∷ zs) b m some e =
     let none : zs ++ b ≡ [] = cc in
     ap₂ (λ y ys. y ∷ ys) same (nothing_of zs b none).0
 
-fewer_asked : (c : Client) (x : Exchange) (a b : List ClientMsg) (o d : List Answer) → (a ≡ [] → ⊥) → OneExchange c (Some x) (a ++ b) (o ++ d)
-    → OneExchange c (Some x) a d
-fewer_asked c x a b o d some (inl h) = inl (record { message = h.message; asked = first_of a b h.message some h.asked; question = h.question; silent = fewer_due o d h.silent })
+fewer_asked : (c : Client) (x : Exchange) (a b : List ClientMsg) (o d : List Answer) → (a ≡ [] → ⊥)
+    → OneExchange c (Some x) (a ++ b) (o ++ d) → OneExchange c (Some x) a d
+fewer_asked c x a b o d some (inl h) = inl (record {
+  message = h.message;
+  asked = first_of a b h.message some h.asked;
+  question = h.question;
+  silent = fewer_due o d h.silent;
+})
 fewer_asked c x a b o d some (inr h) = absurd (some (nothing_of a b h.asked).0)
 
 -- where so many more questions, and answers in front, are the session's
