@@ -11,6 +11,7 @@ pub mod DecidedKept
 pub mod Deciding
 pub mod ToldParts
 pub mod FileApart
+pub mod ToldCovered
 pub mod OwnApart
 pub mod GuardsAgain
 pub mod CommitSeen
