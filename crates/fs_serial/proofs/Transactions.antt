@@ -25,3 +25,7 @@ pub mod LedDecided
 pub mod LedConcluded
 pub mod FitsAlike
 pub mod LedDone
+pub mod Undecided
+pub mod YesesStand
+pub mod FullCommits
+pub mod HomeVotes
