@@ -127,12 +127,12 @@ module _ (k skew greatest : ℕ) (c : Cluster) (s : Server) (at : slice_get c.se
                   ∙ ap (λ o. leading_of txn (leading_at o)) at ∙ leads.one in
           let stage : stage_of_key c.servers key ≡ Counted to Yes =
               ap (λ o. stage_in n o (ended_in c.servers txn)) mine ∙ ap₂ stage_by asked yes in
-          let known : IsStage key (h.led.parts key) (Counted to Yes) (λ i. prepared_in c.servers i key) (told_of key (telling_of c.in_flight)) =
-              subst (λ (x : Stage). IsStage key (h.led.parts key) x (λ i. prepared_in c.servers i key) (told_of key (telling_of c.in_flight)))
-                  stage (h.led.stages key) in
+          let ready = λ (i : ℕ). prepared_in c.servers i key in
+          let told = told_of key (telling_of c.in_flight) in
+          let known : IsStage key (h.led.parts key) (Counted to Yes) ready told =
+              subst (λ (x : Stage). IsStage key (h.led.parts key) x ready told) stage (h.led.stages key) in
           let off : (to == txn.server) ≡ false = ap (λ i. to == i) leads.own ∙ away in
-          let alone : IsAlone (λ i. prepared_in c.servers i key) to (h.led.parts key) =
-              subst (λ b. IsHeldAt b to (h.led.parts key) (λ i. prepared_in c.servers i key)) off known.1 in
+          let alone : IsAlone ready to (h.led.parts key) = subst (λ b. IsHeldAt b to (h.led.parts key) ready) off known.1 in
           let r : HasReady c.servers key to (h.led.parts key) = has_ready c.servers key to (h.led.parts key) alone.here in
           subst (λ (w : Wanted). AllStand (rows_in c) w.session w.part.uses) (r.wanted ∙ leads.wanted n p part)
           (said_stands c h.led r.server (In-got c.servers to r.server r.there) (agreed_of r.part)
