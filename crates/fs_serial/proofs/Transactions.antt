@@ -8,6 +8,10 @@ pub mod YesParts
 pub mod RoundsLocks
 pub mod RoundsStages
 pub mod PartsApart
+pub mod Undecided
+pub mod YesesStand
+pub mod FullCommits
+pub mod HomeVotes
 pub mod LedCounted
 pub mod Decisions
 pub mod LedBegun
@@ -25,7 +29,3 @@ pub mod LedDecided
 pub mod LedConcluded
 pub mod FitsAlike
 pub mod LedDone
-pub mod Undecided
-pub mod YesesStand
-pub mod FullCommits
-pub mod HomeVotes
