@@ -13,3 +13,6 @@ pub mod ToldParts
 pub mod FileApart
 pub mod OwnApart
 pub mod GuardsAgain
+pub mod CommitSeen
+pub mod RelockedWorld
+pub mod DecideSeen

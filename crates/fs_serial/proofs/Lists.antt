@@ -4,6 +4,7 @@ pub mod Counted
 pub mod Counting
 pub mod Times
 pub mod SetAt
+pub mod EachAt
 pub mod ByPlace
 pub mod Children
 pub mod Listed

@@ -11,3 +11,5 @@ pub mod PutRecords
 pub mod Joining
 pub mod Unseen
 pub mod Elsewhere
+pub mod RelockedRows
+pub mod AppliedRecords

@@ -29,3 +29,6 @@ pub mod LedDecided
 pub mod LedConcluded
 pub mod FitsAlike
 pub mod LedDone
+pub mod PlacesAfter
+pub mod YesElsewhere
+pub mod DecisionPlaces

@@ -77,7 +77,7 @@ deciding_in servers fs d i =
 
 -- ## Its word
 
-not_awaited : (o : Option ℕ) (v : Option (Option Vote)) (at : ℕ) → stage_by o v ≡ Awaited at → ⊥
+pub not_awaited : (o : Option ℕ) (v : Option (Option Vote)) (at : ℕ) → stage_by o v ≡ Awaited at → ⊥
 not_awaited None v at e = absurd (cc)
 not_awaited (Some k) None at e = absurd (cc)
 not_awaited (Some k) (Some None) at e = absurd (cc)

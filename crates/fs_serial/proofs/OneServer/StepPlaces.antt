@@ -43,10 +43,10 @@ sent_still is more p h = record { formed = h.formed; given = h.given; listed = �
 
 -- with the same number and map
 module _ (front back : List Server) (s t : Server) (me : t.me ≡ s.me) (map : t.map ≡ s.map) where
-  mine_same : (id : List ℕ) → is_mine t id ≡ is_mine s id
+  pub mine_same : (id : List ℕ) → is_mine t id ≡ is_mine s id
   mine_same id = ap₂ (λ owners me. server_of owners id == me) map me
 
-  one_same : (parcels : List Parcel) → OnePlace (front ++ s ∷ back) parcels → OnePlace (front ++ t ∷ back) parcels
+  pub one_same : (parcels : List Parcel) → OnePlace (front ++ s ∷ back) parcels → OnePlace (front ++ t ∷ back) parcels
   one_same parcels one id =
       ap (λ n. n + length (filter (gives_it id) parcels)) (
       ap length (filter-append (λ (x : Server). is_mine x id) front (t ∷ back))
@@ -62,12 +62,12 @@ module _ (front back : List Server) (s t : Server) (me : t.me ≡ s.me) (map : t
         alike true = omega arith
         alike false = refl
 
-  length_same : length (front ++ t ∷ back) ≡ length (front ++ s ∷ back)
+  pub length_same : length (front ++ t ∷ back) ≡ length (front ++ s ∷ back)
   length_same = length-append front (t ∷ back) ∙ ap (λ n. length front + n) (one_more back) ∙ sym (length-append front (s ∷ back)) where
     one_more : (xs : List Server) → length (t ∷ xs) ≡ length (s ∷ xs)
     one_more xs = omega arith
 
-  each_same : (P : Server → Type 0) → ((x : Server) → In x (front ++ s ∷ back) → P x) → P t → (x : Server) → In x (front ++ t ∷ back) → P x
+  pub each_same : (P : Server → Type 0) → ((x : Server) → In x (front ++ s ∷ back) → P x) → P t → (x : Server) → In x (front ++ t ∷ back) → P x
   each_same P old new x i = elim (In-append x front (t ∷ back) i) as (λ _. P x) [
     | inl j ↦ old x (In-front x front (s ∷ back) j)
     | inr j ↦ elim j as (λ _. P x) [
@@ -77,7 +77,7 @@ module _ (front back : List Server) (s t : Server) (me : t.me ≡ s.me) (map : t
   ]
 
 -- at each place stands the server of its number
-numbered_same : (front back : List Server) (s t : Server) → t.me ≡ s.me → (n : ℕ) → ((j : ℕ) (x : Server) → slice_get (front ++ s ∷ back) j ≡ Some x → x.me ≡ n + j) → (j : ℕ) (x : Server) → slice_get (front ++ t ∷ back) j ≡ Some x → x.me ≡ n + j
+pub numbered_same : (front back : List Server) (s t : Server) → t.me ≡ s.me → (n : ℕ) → ((j : ℕ) (x : Server) → slice_get (front ++ s ∷ back) j ≡ Some x → x.me ≡ n + j) → (j : ℕ) (x : Server) → slice_get (front ++ t ∷ back) j ≡ Some x → x.me ≡ n + j
 numbered_same [] back s t me n old zero x e = let same : t ≡ x = cc in ap (λ (y : Server). y.me) (sym same) ∙ me ∙ old zero s refl
 numbered_same [] back s t me n old (suc j) x e = old (suc j) x e
 numbered_same (f ∷ fs) back s t me n old zero x e = old zero x e
