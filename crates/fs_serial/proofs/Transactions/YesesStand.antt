@@ -1,5 +1,5 @@
 -- Where all parts of a transaction said Yes, the rows of all leases that it used stand.
-use Rattle.std.proofs.Common.{◌≡◌, ◌==◌, ℕ, true, false, List, map, refl, sym, ap, ap₂, ◌∙◌, subst, cond, inl}
+use Rattle.std.proofs.Common.{◌≡◌, ◌==◌, ℕ, true, false, List, map, refl, sym, ap, ◌∙◌, subst, cond, inl}
 use Rattle.std.specs.Prelude.{Option, Some, None, slice_get}
 use Rattle.std.specs.List.{flat_map}
 use Rattle.std.proofs.lemmas.Bool.{eqb-true}
@@ -15,11 +15,10 @@ use Rattle.fs_client.specs.declared.led.Led.{Led as TheLed}
 use Rattle.fs_server.specs.Begins.{parts_in}
 use Rattle.fs_server.specs.declared.state.Server.{Server}
 use Rattle.fs_txn.specs.Deciding.{agreed, by_path, commit, first_end, needs_path, reply_of, unless_ended}
-use Rattle.fs_txn.specs.Leading.{leading_of, said_by, stage_by, stage_in}
+use Rattle.fs_txn.specs.Leading.{said_by}
 use Rattle.fs_txn.specs.Locks.{Agreed}
 use Rattle.fs_txn.specs.Ready.{agreed_of}
-use Rattle.fs_txn.specs.Stages.{IsAlone, IsHeldAt, IsStage, Key, Stage, Wanted, told_of}
-use Rattle.fs_txn.specs.Stages.Stage.{Counted}
+use Rattle.fs_txn.specs.Stages.{Key, Wanted}
 use Rattle.fs_txn.specs.declared.leader.Leader.{Leader}
 use Rattle.fs_txn.specs.declared.leading.Leading.{Leading}
 use Rattle.fs_txn.specs.declared.mode.Mode2.TheVariants.{Plain}
@@ -31,13 +30,14 @@ use Rattle.fs_serial.specs.Meanwhile.{ClusterStands, world_meanwhile}
 use Rattle.fs_serial.specs.Owed.{ends_in}
 use Rattle.fs_serial.specs.Pending.{AllStand, Stands}
 use Rattle.fs_serial.specs.Refusals.{rows_in}
-use Rattle.fs_serial.specs.Words.{ended_in, key_of, leading_at, led_in, prepared_in, said_at, stage_of_key, telling_of}
+use Rattle.fs_serial.specs.Words.{key_of, said_at}
 use Rattle.fs_serial.specs.World.{settled_at, sight_in}
-use Rattle.fs_serial.proofs.DecidedEffects.ToldParts.{HasReady, has_ready}
+use Rattle.fs_serial.proofs.DecidedEffects.ToldParts.{HasReady}
 use Rattle.fs_serial.proofs.Lists.Servers.{In_at}
 use Rattle.fs_serial.proofs.Places.HeldRows.{row_of_all}
 use Rattle.fs_serial.proofs.Transactions.OwnersOfLocks.{in_range}
 use Rattle.fs_serial.proofs.Transactions.Tables.{In_all, In_some}
+use Rattle.fs_serial.proofs.Transactions.YesElsewhere.{ready_there}
 use Rattle.fs_serial.proofs.Transactions.Undecided.{stands, up_led}
 use Rattle.fs_serial.proofs.Transactions.YesParts.{IsSaidHere, said_in}
 
@@ -121,19 +121,8 @@ module _ (k skew greatest : ℕ) (c : Cluster) (s : Server) (at : slice_get c.se
       -- another server has it ready
       other_stands : (to : ℕ) → slice_get l.at n ≡ Some to → (to == s.me) ≡ false → AllStand (rows_in c) by p.uses
       other_stands to asked away =
-          let txn = l.leader.txn in
-          let mine : led_in c.servers txn ≡ Some l =
-              ap (λ i. leading_of txn (leading_at (slice_get c.servers i))) (leads.own ∙ h.places.numbered k s at)
-                  ∙ ap (λ o. leading_of txn (leading_at o)) at ∙ leads.one in
-          let stage : stage_of_key c.servers key ≡ Counted to Yes =
-              ap (λ o. stage_in n o (ended_in c.servers txn)) mine ∙ ap₂ stage_by asked yes in
-          let ready = λ (i : ℕ). prepared_in c.servers i key in
-          let told = told_of key (telling_of c.in_flight) in
-          let known : IsStage key (h.led.parts key) (Counted to Yes) ready told =
-              subst (λ (x : Stage). IsStage key (h.led.parts key) x ready told) stage (h.led.stages key) in
-          let off : (to == txn.server) ≡ false = ap (λ i. to == i) leads.own ∙ away in
-          let alone : IsAlone ready to (h.led.parts key) = subst (λ b. IsHeldAt b to (h.led.parts key) ready) off known.1 in
-          let r : HasReady c.servers key to (h.led.parts key) = has_ready c.servers key to (h.led.parts key) alone.here in
+          let q = ready_there k c s at (h.places.numbered k s at) h.led l j (n, to) yes asked away in
+          let r : HasReady c.servers key to (h.led.parts key) = q.ready in
           subst (λ (w : Wanted). AllStand (rows_in c) w.session w.part.uses) (r.wanted ∙ leads.wanted n p part)
           (said_stands c h.led r.server (In-got c.servers to r.server r.there) (agreed_of r.part)
           (In-front (agreed_of r.part) (map agreed_of r.server.prepared) (flat_map (said_by r.server.me) r.server.leading)
