@@ -14,6 +14,7 @@ pub mod FileApart
 pub mod ToldCovered
 pub mod OwnApart
 pub mod GuardsAgain
+pub mod DecisionSeen
 pub mod CommitSeen
 pub mod RelockedWorld
 pub mod DecideSeen

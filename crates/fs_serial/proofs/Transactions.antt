@@ -29,6 +29,11 @@ pub mod LedDecided
 pub mod LedConcluded
 pub mod FitsAlike
 pub mod LedDone
+pub mod SeenMeanwhile
+pub mod ToldOrOwed
+pub mod StandsAfter
+pub mod PutOff
+pub mod Aborted
 pub mod PlacesAfter
 pub mod YesElsewhere
 pub mod DecisionPlaces

@@ -42,7 +42,7 @@ use Rattle.fs_serial.proofs.ClientMessages.Sending.{IsRecallTo, recall_all, reca
 
 module _ (k : ℕ) (asked : Session → Option ℕ) where
   -- one answer to the session that asked, and recalls behind it
-  one_due : (by : Session) (a : Answer) (rest : List (Peer × Msg)) → asked by ≡ Some k → ((m : Peer × Msg) → In m rest → IsRecallTo m) → AreDue k (to_session by a ∷ rest) asked
+  pub one_due : (by : Session) (a : Answer) (rest : List (Peer × Msg)) → asked by ≡ Some k → ((m : Peer × Msg) → In m rest → IsRecallTo m) → AreDue k (to_session by a ∷ rest) asked
   one_due by a rest due are to b (inl e) d =
       let same : OfSession to ≡ OfSession by = ap (λ (p : Peer × Msg). p.0) e in
       let is : to ≡ by = cc in

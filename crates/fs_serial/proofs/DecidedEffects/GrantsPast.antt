@@ -136,7 +136,7 @@ some_here : (o : Option Record) → is_dir (kind_of (node_of o)) ≡ true → is
 some_here None h = absurd (cc)
 some_here (Some r) h = refl
 
-next_held : (m : RecordMap) (es : List Effect) (dir : List ℕ) → AreDecided es → (In (RemoveNode dir) es → ⊥) → is_directory m dir ≡ true → next_of (get (held_with es m) dir) ≡ next_of (get m dir)
+pub next_held : (m : RecordMap) (es : List Effect) (dir : List ℕ) → AreDecided es → (In (RemoveNode dir) es → ⊥) → is_directory m dir ≡ true → next_of (get (held_with es m) dir) ≡ next_of (get m dir)
 next_held m [] dir d stays is = refl
 next_held m (e ∷ es) dir d stays is =
     let same : kind_of (node_of (get (records_after m e) dir)) ≡ kind_of (node_of (get m dir)) = kind_held m (e ∷ []) dir (λ x i. elim i as (λ _. IsDecided x) [ inl q ↦ d x (inl q) | inr z ↦ absurd z ]) (λ i. elim i as (λ _. ⊥) [ inl q ↦ stays (inl q) | inr z ↦ z ]) in

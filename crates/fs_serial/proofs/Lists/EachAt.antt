@@ -1,9 +1,10 @@
 -- What each item of a list gives, one after another, where one item is replaced.
-use Rattle.std.proofs.Common.{◌≡◌, ◌+◌, ◌≤◌, ℕ, zero, suc, List, [], ◌∷◌, ◌++◌, length, refl, sym, ap, ◌∙◌, append-nil, length-append, arith}
+use Rattle.std.proofs.Common.{◌≡◌, ◌+◌, ◌≤◌, ℕ, zero, suc, List, [], ◌∷◌, ◌++◌, length, refl, sym, ap, ◌∙◌, append-nil}
+use Rattle.std.proofs.Common.{length-append, arith}
 use Rattle.std.specs.Prelude.{Some, slice_get, slice_set}
 use Rattle.std.specs.List.{flat_map}
 
-none_long : {X : Type 0} (xs : List X) → length xs ≤ 0 → xs ≡ []
+pub none_long : {X : Type 0} (xs : List X) → length xs ≤ 0 → xs ≡ []
 none_long [] h = refl
 none_long (x ∷ xs) h = absurd (omega (arith, h))
 
@@ -19,7 +20,8 @@ each_same f (z ∷ zs) zero x y h e = let same : z ≡ x = cc in ap (λ ys. ys +
 each_same f (z ∷ zs) (suc k) x y h e = ap (λ ys. f z ++ ys) (each_same f zs k x y h e)
 
 -- no shorter than what one gives
-one_of_all : {X Y : Type 0} (f : X → List Y) (xs : List X) (k : ℕ) (x : X) → slice_get xs k ≡ Some x → length (f x) ≤ length (flat_map f xs)
+pub one_of_all : {X Y : Type 0} (f : X → List Y) (xs : List X) (k : ℕ) (x : X) → slice_get xs k ≡ Some x
+    → length (f x) ≤ length (flat_map f xs)
 one_of_all f [] k x h = absurd (cc h)
 one_of_all f (z ∷ zs) zero x h =
     let same : z ≡ x = cc in
@@ -46,3 +48,10 @@ each_alone f (z ∷ zs) (suc k) x y h few =
     let all : length (f z ++ flat_map f zs) ≡ length (f z) + length (flat_map f zs) = length-append (f z) (flat_map f zs) in
     let none : f z ≡ [] = none_long (f z) (omega (arith, one, all, few)) in
     ap (λ ys. ys ++ flat_map f (slice_set zs k y)) none ∙ each_alone f zs k x y h (omega (arith, one, all, few))
+
+-- where none is given, one gives none
+pub each_none : {X Y : Type 0} (f : X → List Y) (xs : List X) (k : ℕ) (x : X) → slice_get xs k ≡ Some x → flat_map f xs ≡ [] → f x ≡ []
+each_none f xs k x h none =
+    let few : length (f x) ≤ length (flat_map f xs) = one_of_all f xs k x h in
+    let zero_long : length (flat_map f xs) ≡ 0 = ap length none in
+    none_long (f x) (omega (arith, few, zero_long))

@@ -60,7 +60,7 @@ pub record IsAlone (k : ℕ) (waiting : List (ℕ × ClientMsg)) (m : ClientMsg)
   pub only : waiting ≡ (k, m) ∷ []
   pub left : without_first (is_with k) waiting ≡ []
 
-alone : (up : List (ℕ × ClientMsg)) (k : ℕ) (m : ClientMsg) → messages up ≡ m ∷ [] → find (is_with k) up ≡ Some (k, m) → IsAlone k up m
+pub alone : (up : List (ℕ × ClientMsg)) (k : ℕ) (m : ClientMsg) → messages up ≡ m ∷ [] → find (is_with k) up ≡ Some (k, m) → IsAlone k up m
 alone [] k m e f = absurd (cc)
 alone (u ∷ []) k m e f =
     elim (is_with k u) as (λ b. is_with k u ≡ b → cond b (Some u) None ≡ Some (k, m) → IsAlone k (u ∷ []) m) [

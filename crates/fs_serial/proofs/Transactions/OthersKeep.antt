@@ -57,7 +57,7 @@ sent_client k ((OfSession to, msg.Answer a) ∷ rest) lines y = sent_client k re
     by false = refl
 sent_client k (m ∷ rest) lines y = sent_client k rest lines y
 
-taken_client : (k : ℕ) (e : ServerEvent) (lines : Session → Lines) (y : Session) → (without_question k e lines y).client ≡ (lines y).client
+pub taken_client : (k : ℕ) (e : ServerEvent) (lines : Session → Lines) (y : Session) → (without_question k e lines y).client ≡ (lines y).client
 taken_client k (event.FromClient by m) lines y =
     let l : Lines = record (lines by) { up = without_first (is_with k) (lines by).up } in
     elim (by.0 == y.0) as (λ b. (by.0 == y.0) ≡ b → (cond b l (lines y)).client ≡ (lines y).client) [

@@ -14,10 +14,13 @@ use Rattle.fs_msg.specs.declared.msg.Msg.{Msg}
 use Rattle.fs_msg.specs.declared.msg.Msg.TheVariants as msg
 use Rattle.fs_client.specs.declared.exchange.Exchange.{Exchange}
 use Rattle.fs_client.specs.declared.state.Client.{Client}
-use Rattle.fs_serial.specs.Cluster.{Lines, with_answer, with_sent}
+use Rattle.fs_server.specs.declared.event.ServerEvent.{ServerEvent}
+use Rattle.fs_server.specs.declared.event.ServerEvent.TheVariants as event
+use Rattle.fs_serial.specs.Cluster.{Lines, is_with, with_answer, with_sent, without_first, without_question}
 use Rattle.fs_serial.specs.Exchange.{OneExchange, asked_server, due, is_recall, server_of_question}
 use Rattle.fs_serial.specs.Seen.{IsAddressed}
 use Rattle.fs_serial.proofs.ClientMessages.Sending.{IsRecallTo}
+use Rattle.fs_serial.proofs.Lists.SetAt.{In_without}
 use Rattle.fs_serial.proofs.Lists.Traffic.{messages}
 
 -- fewer messages, and the same question
@@ -26,6 +29,17 @@ addressed_still l k e up down h = record {
   up = λ m i. ap asked_server e ∙ h.up m (up m i);
   down = λ m i d. ap asked_server e ∙ h.down m (down m i) d;
 }
+
+-- the question that a server takes is no longer on its way
+pub taken_addressed : (k : ℕ) (e : ServerEvent) (lines : Session → Lines) → ((x : Session) → IsAddressed (lines x)) → (x : Session)
+    → IsAddressed (without_question k e lines x)
+taken_addressed k (event.FromClient by m) lines h x =
+    let l : Lines = record (lines by) { up = without_first (is_with k) (lines by).up } in
+    elim (by.0 == x.0) as (λ b. IsAddressed (cond b l (lines x))) [
+      | true ↦ addressed_still (lines by) l refl (λ n i. In_without (is_with k) (lines by).up n i) (λ n i. i) (h by)
+      | false ↦ h x
+    ]
+taken_addressed k e lines h x = h x
 
 -- ## Answers that are sent
 

@@ -37,7 +37,7 @@ use Rattle.fs_serial.specs.Seen.{ClusterHolds, IsAddressed, counts_of, ends_of, 
 use Rattle.fs_serial.specs.Sight.{count_with}
 use Rattle.fs_serial.specs.World.{Ends, World, WorldHolds}
 use Rattle.fs_serial.specs.World as world
-use Rattle.fs_serial.proofs.WholeRuns.Addressing.{AreDue, addressed_still, sent_addressed}
+use Rattle.fs_serial.proofs.WholeRuns.Addressing.{AreDue, sent_addressed, taken_addressed}
 use Rattle.fs_serial.proofs.Moves.Arriving.{arriving_places, arriving_same, parcel_fits}
 use Rattle.fs_serial.proofs.ClientMessages.Due.{HasAsked, event_due}
 use Rattle.fs_serial.proofs.Returns.Lapsing.{begins, begun_at}
@@ -84,15 +84,6 @@ same_client k (event.FromClient by m) lines x =
       | false ↦ λ t. refl
     ] refl
 same_client k e lines x = refl
-
-taken_addressed : (k : ℕ) (e : ServerEvent) (lines : Session → Lines) → ((x : Session) → IsAddressed (lines x)) → (x : Session) → IsAddressed (without_question k e lines x)
-taken_addressed k (event.FromClient by m) lines h x =
-    let l : Lines = record (lines by) { up = without_first (is_with k) (lines by).up } in
-    elim (by.0 == x.0) as (λ b. IsAddressed (cond b l (lines x))) [
-      | true ↦ addressed_still (lines by) l refl (λ n i. In_without (is_with k) (lines by).up n i) (λ n i. i) (h by)
-      | false ↦ h x
-    ]
-taken_addressed k e lines h x = h x
 
 has_asked : (k : ℕ) (e : ServerEvent) (c : Cluster) → IsThere k e c → ((x : Session) → IsAddressed (c.lines x)) → HasAsked k (λ x. asked_server (without_question k e c.lines x).client.exchange) e
 has_asked k (event.FromClient by m) c there h =

@@ -72,7 +72,7 @@ alike_holds greatest w v q clock h =
 -- ## One cluster
 
 -- where the server stands at its place, its own count is as that of all
-count_at_place : (f : Option Server → ℕ) (servers : List Server) (k me : ℕ) (s : Server) → slice_get servers k ≡ Some s → me ≡ k → (j : ℕ) → count_with me (f (Some s)) (λ i. f (slice_get servers i)) j ≡ f (slice_get servers j)
+pub count_at_place : (f : Option Server → ℕ) (servers : List Server) (k me : ℕ) (s : Server) → slice_get servers k ≡ Some s → me ≡ k → (j : ℕ) → count_with me (f (Some s)) (λ i. f (slice_get servers i)) j ≡ f (slice_get servers j)
 count_at_place f servers k me s at is j =
     elim (j == me) as (λ b. (j == me) ≡ b → cond b (f (Some s)) (f (slice_get servers j)) ≡ f (slice_get servers j)) [
       | true ↦ λ t. let q : j ≡ k = eqb-true j me t ∙ is in ap f (sym at) ∙ ap (λ i. f (slice_get servers i)) (sym q)
