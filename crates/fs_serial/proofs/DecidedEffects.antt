@@ -14,3 +14,6 @@ pub mod FileApart
 pub mod OwnApart
 pub mod GuardsAgain
 pub mod CommitSeen
+pub mod DecidedOwed
+pub mod LedPuts
+pub mod CommitStands

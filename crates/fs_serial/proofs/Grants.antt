@@ -13,3 +13,4 @@ pub mod Gift
 pub mod GiftReserved
 pub mod GiftedRecords
 pub mod Claims
+pub mod RelockedWorlds
