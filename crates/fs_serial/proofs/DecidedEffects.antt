@@ -13,7 +13,10 @@ pub mod ToldParts
 pub mod FileApart
 pub mod OwnApart
 pub mod GuardsAgain
+pub mod DecisionSeen
 pub mod CommitSeen
 pub mod DecidedOwed
 pub mod LedPuts
 pub mod CommitStands
+pub mod RelockedWorld
+pub mod DecideSeen

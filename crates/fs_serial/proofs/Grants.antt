@@ -13,4 +13,3 @@ pub mod Gift
 pub mod GiftReserved
 pub mod GiftedRecords
 pub mod Claims
-pub mod RelockedWorlds

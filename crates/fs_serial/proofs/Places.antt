@@ -12,3 +12,4 @@ pub mod Joining
 pub mod Unseen
 pub mod Elsewhere
 pub mod RelockedRows
+pub mod AppliedRecords

@@ -29,6 +29,7 @@ pub mod SeenMeanwhile
 pub mod ToldOrOwed
 pub mod StandsAfter
 pub mod PutOff
+pub mod Aborted
 pub mod PlacesAfter
 pub mod YesElsewhere
 pub mod DecisionPlaces

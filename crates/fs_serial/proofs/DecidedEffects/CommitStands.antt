@@ -71,14 +71,15 @@ use Rattle.fs_serial.specs.Sight.{Sight}
 use Rattle.fs_serial.specs.Words.{decided_in}
 use Rattle.fs_serial.specs.World.{Ends, World, WorldHolds, settled_at, sight_in, with_answer, without_question}
 use Rattle.fs_serial.proofs.DecidedEffects.CommitSeen.{decided_is, decision_is, goes_same, held_is, is_relock, records_are, relock, rows_are}
+use Rattle.fs_serial.proofs.DecidedEffects.DecideSeen.{StaysDecided, fits_again}
 use Rattle.fs_serial.proofs.DecidedEffects.DecidedOwed.{decided_owed}
 use Rattle.fs_serial.proofs.DecidedEffects.FileApart.{IsFileApart}
 use Rattle.fs_serial.proofs.DecidedEffects.GuardsAgain.{IsPut, all_put, decided_again, guarded_again}
 use Rattle.fs_serial.proofs.DecidedEffects.LedPuts.{AreBare, ArePut, beside, each_fits, put_past}
+use Rattle.fs_serial.proofs.DecidedEffects.RelockedWorld.{relocked_holds, with_locks}
 use Rattle.fs_serial.proofs.DecidedEffects.StandPast.{AllApart}
 use Rattle.fs_serial.proofs.DecidedEffects.ToldParts.{IsPutIn}
 use Rattle.fs_serial.proofs.DecidedEffects.Underway.{effect_of, going_past, locks_stay, place_past, stands_then}
-use Rattle.fs_serial.proofs.Grants.RelockedWorlds.{relocked_holds}
 use Rattle.fs_serial.proofs.LedOperations.Committing.{kind_there, led_reply}
 use Rattle.fs_serial.proofs.LedOperations.LedSteps.{commit_past_all, effects_past, led_stands, one_step, to_lead}
 use Rattle.fs_serial.proofs.OtherSessions.Gone.{made_more}
@@ -207,9 +208,7 @@ module _ (k skew greatest : ℕ) (c : Cluster) (s : Server) (at : slice_get c.se
     change = at_home s (relock k skew greatest c s at h l there yes)
 
     abbrev second : World
-    second =
-        let v : World = after_commit sends s.txns by m w in
-        record v { server = record v.server { rows = map change (rows_in c) } }
+    second = with_locks change (after_commit sends s.txns by m w)
 
     second_holds : WorldHolds greatest second
     second_holds = relocked_holds change (home_relock s (relock k skew greatest c s at h l there yes) (is_relock k skew greatest c s at h l there yes))
@@ -358,19 +357,12 @@ module _ (k skew greatest : ℕ) (c : Cluster) (s : Server) (at : slice_get c.se
               subst Fits (sym (ap (λ (z : Decided). z.effect) q.1.1)) (new_fits q.0 q.1.0)
         ]))
 
+    stays : (x : Decided) → In x (decided_in then) → StaysDecided then x
+    stays x i = record { put = put x i; bare = (fits_then x i).0; file = (fits_then x i).1; owed = decided_owed then x i }
+
     commit_fits : DecidedFits (world_meanwhile t then)
-    commit_fits = record {
-      all = record {
-        records = subst AreRecords (sym records_then) (after_all_kept records (staying sends es) view.1.all.records);
-        stand = λ x i. let q = fits_then x i in record {
-          decided = decided_again then led x i;
-          guarded = guarded_again then led x i (put x i);
-          bare = q.0;
-          file = q.1;
-        };
-      };
-      owed = decided_owed then;
-    }
+    commit_fits = fits_again then t led
+        (subst AreRecords (sym records_then) (after_all_kept records (staying sends es) view.1.all.records)) stays
 
     pub commit_stands : WorldStands greatest (world_meanwhile t then)
     commit_stands = (commit_holds, commit_fits)

@@ -76,7 +76,6 @@ use Rattle.fs_serial.proofs.DecidedEffects.Owing.{answered_owed, led_owed}
 use Rattle.fs_serial.proofs.DecidedEffects.StandPast.{AllApart}
 use Rattle.fs_serial.proofs.DecidedEffects.ToldParts.{IsPutIn}
 use Rattle.fs_serial.proofs.DecidedEffects.Underway.{PlaceStays, going_past, locks_stay, node_changed, place_past, stands_then}
-use Rattle.fs_serial.proofs.Grants.RelockedWorlds.{relocked_holds}
 use Rattle.fs_serial.proofs.LedOperations.Committing.{kind_there}
 use Rattle.fs_serial.proofs.LedOperations.LedSteps.{commit_past_all, effects_past, led_stands, one_step, to_lead}
 use Rattle.fs_serial.proofs.OtherSessions.Gone.{made_more}

@@ -86,7 +86,7 @@ none_split es = record {
   apart = λ d e i j. absurd (subst (In d) (none_go es) i);
 }
 
-effects_of_sent : (by : Session) (es : List Effect) → effects_in (decided_for by es) ≡ es
+pub effects_of_sent : (by : Session) (es : List Effect) → effects_in (decided_for by es) ≡ es
 effects_of_sent by [] = refl
 effects_of_sent by (e ∷ es) = ap (λ xs. e ∷ xs) (effects_of_sent by es)
 

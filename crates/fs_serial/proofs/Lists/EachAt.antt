@@ -1,5 +1,6 @@
 -- What each item of a list gives, one after another, where one item is replaced.
-use Rattle.std.proofs.Common.{◌≡◌, ◌+◌, ◌≤◌, ℕ, zero, suc, List, [], ◌∷◌, ◌++◌, length, refl, sym, ap, ◌∙◌, append-nil, length-append, arith}
+use Rattle.std.proofs.Common.{◌≡◌, ◌+◌, ◌≤◌, ℕ, zero, suc, List, [], ◌∷◌, ◌++◌, length, refl, sym, ap, ◌∙◌, append-nil}
+use Rattle.std.proofs.Common.{length-append, arith}
 use Rattle.std.specs.Prelude.{Some, slice_get, slice_set}
 use Rattle.std.specs.List.{flat_map}
 
@@ -19,7 +20,8 @@ each_same f (z ∷ zs) zero x y h e = let same : z ≡ x = cc in ap (λ ys. ys +
 each_same f (z ∷ zs) (suc k) x y h e = ap (λ ys. f z ++ ys) (each_same f zs k x y h e)
 
 -- no shorter than what one gives
-pub one_of_all : {X Y : Type 0} (f : X → List Y) (xs : List X) (k : ℕ) (x : X) → slice_get xs k ≡ Some x → length (f x) ≤ length (flat_map f xs)
+pub one_of_all : {X Y : Type 0} (f : X → List Y) (xs : List X) (k : ℕ) (x : X) → slice_get xs k ≡ Some x
+    → length (f x) ≤ length (flat_map f xs)
 one_of_all f [] k x h = absurd (cc h)
 one_of_all f (z ∷ zs) zero x h =
     let same : z ≡ x = cc in

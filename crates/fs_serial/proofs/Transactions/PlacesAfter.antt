@@ -13,7 +13,7 @@ use Rattle.fs_ident.specs.declared.actor.Session.{Session}
 use Rattle.fs_ident.specs.declared.actor.TxnNo.{TxnNo}
 use Rattle.fs_ident.proofs.Standing.{In-append, In-got, In-map}
 use Rattle.fs_field.specs.Field.{file_of}
-use Rattle.fs_field.specs.Table.{is_lock_of, is_ordered, unlocked_row}
+use Rattle.fs_field.specs.Table.{is_ordered, unlocked_row}
 use Rattle.fs_field.specs.declared.row.Row.{Row}
 use Rattle.fs_field.specs.declared.used.Part.{Part}
 use Rattle.fs_field.specs.declared.used.Use.{Use}
@@ -43,6 +43,7 @@ use Rattle.fs_serial.proofs.Lists.Traffic.{IsTaken, taken_first}
 use Rattle.fs_serial.proofs.Moves.Parcels.{parcels-append}
 use Rattle.fs_serial.proofs.OneServer.StepPlaces.{each_same, home_still, length_same, mine_same, numbered_same, one_same, sent_still}
 use Rattle.fs_serial.proofs.Places.ClusterPlaces.{IsBetween, between}
+use Rattle.fs_serial.proofs.Places.RelockedRows.{map_itself, unlocked_relock}
 
 -- ## Rows
 
@@ -52,16 +53,12 @@ pub record AreRelocked (rows new : List Row) : Type 0 where
   pub relock : IsRelock change
   pub is : new ≡ map change rows
 
-map_itself : (rows : List Row) → rows ≡ map (λ (r : Row). r) rows
-map_itself [] = refl
-map_itself (r ∷ rs) = ap (λ xs. r ∷ xs) (map_itself rs)
-
 map_twice : (f g : Row → Row) (rows : List Row) → map g (map f rows) ≡ map (λ r. g (f r)) rows
 map_twice f g [] = refl
 map_twice f g (r ∷ rs) = ap (λ xs. g (f r) ∷ xs) (map_twice f g rs)
 
 pub relocked_not : (rows : List Row) → AreRelocked rows rows
-relocked_not rows = record { change = λ r. r; relock = λ r. (r.lock, refl); is = map_itself rows }
+relocked_not rows = record { change = λ r. r; relock = λ r. (r.lock, refl); is = sym (map_itself rows) }
 
 pub relocked_then : (a b c : List Row) → AreRelocked a b → AreRelocked b c → AreRelocked a c
 relocked_then a b c f g = record {
@@ -95,7 +92,7 @@ voted_so (PathsOut l) txn uses rows = relocked_not rows
 pub unlocked_so : (txn : TxnNo) (rows : List Row) → AreRelocked rows (map (unlocked_row txn) rows)
 unlocked_so txn rows = record {
   change = unlocked_row txn;
-  relock = λ r. if_relock (is_lock_of txn r.lock) None r;
+  relock = unlocked_relock txn;
   is = refl;
 }
 

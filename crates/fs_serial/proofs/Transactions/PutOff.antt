@@ -68,7 +68,8 @@ module _ (skew greatest k : ℕ) (c : Cluster) (s : Server) (at : slice_get c.se
     freed_fits greatest w by m up now.0 s.txns (end.Again why) now.1,
   )
 
-  seen : WorldStands greatest (made skew greatest k c s at h e there (refuses by why s) big (refuse_same k c s by m at h.places why) put_off_leaves)
+  seen : WorldStands greatest
+      (made skew greatest k c s at h e there (refuses by why s) big (refuse_same k c s by m at h.places why) put_off_leaves)
   seen =
       subst (λ journal. WorldStands greatest (record {
         server = with_all s c;

@@ -135,5 +135,5 @@ module _ (skew greatest k : ℕ) (c : Cluster) (s : Server) (at : slice_get c.se
     pub stands_after : AreDue k small.out.send (λ z. asked_server (without_question k e c.lines z).client.exchange)
         → WorldStands greatest made → ClusterStands skew greatest after
     stands_after due held =
-        all_stand after small.server refl q.skew clock (step_places k e s small big c at h.places q) (step_keeps_led k e s small c at h.led leaves)
-        (seen_after held) (sent_addressed k small.out.send (without_question k e c.lines) due (taken_addressed k e c.lines h.addressed))
+        all_stand after small.server refl q.skew clock (step_places k e s small big c at h.places q)
+        (step_keeps_led k e s small c at h.led leaves) (seen_after held) (sent_addressed k small.out.send (without_question k e c.lines) due (taken_addressed k e c.lines h.addressed))

@@ -2,7 +2,7 @@
 use mathlib.Core.Path.{fun_ext}
 use Rattle.std.proofs.Common.{◌≡◌, ℕ, ◌+◌, ◌≤◌, ◌==◌, Bool, true, false, not, List, [], ◌∷◌, ◌++◌, length, map, filter, cond}
 use Rattle.std.proofs.Common.{refl, sym, ap, ap₂, ◌∙◌, subst, inl, inr, append-nil, length-append, arith}
-use Rattle.std.specs.Prelude.{Option, Some, None, is_some, slice_get, slice_set}
+use Rattle.std.specs.Prelude.{Option, Some, is_some, slice_get, slice_set}
 use Rattle.std.specs.List.{flat_map}
 use Rattle.std.proofs.lemmas.List.{map-append}
 use Rattle.std.proofs.lemmas.List.Elements.{filter-append}
@@ -18,12 +18,11 @@ use Rattle.fs_msg.specs.declared.answer.Answer.TheVariants as answer
 use Rattle.fs_msg.specs.declared.client_msg.ClientMsg.{ClientMsg}
 use Rattle.fs_msg.specs.declared.client_msg.ClientMsg.TheVariants.{Lead}
 use Rattle.fs_msg.specs.declared.msg.Msg.{Msg}
-use Rattle.fs_record.specs.declared.led_end.LedEnd.{LedEnd}
 use Rattle.fs_client.specs.Led.{lead_of}
 use Rattle.fs_client.specs.declared.led.Led.{Led}
 use Rattle.fs_server.specs.Concludes.{ends_now, tells}
 use Rattle.fs_server.specs.Concludes as server
-use Rattle.fs_server.specs.Server.{Stepped, to_session}
+use Rattle.fs_server.specs.Server.{Stepped}
 use Rattle.fs_server.specs.declared.state.Server.{Server}
 use Rattle.fs_txn.specs.Leading.{elsewhere, end_of_decision, leading_of, without_ending, without_leading}
 use Rattle.fs_txn.specs.declared.decision.Decision.{Decision}
@@ -133,10 +132,12 @@ module _ (k skew greatest : ℕ) (c : Cluster) (s : Server) (at : slice_get c.se
   led_is = leads.client.led
 
   taken_here : In asks (taken_at by (Some m) s)
-  taken_here = In_all (λ (z : Leading). question_of (Some m)) asks l (filter own s.leading) (kept_in own l s.leading there (itself by.0)) (inl refl)
+  taken_here =
+      In_all (λ (z : Leading). question_of (Some m)) asks l (filter own s.leading) (kept_in own l s.leading there (itself by.0)) (inl refl)
 
   taken_some : In asks (taken_leads by (c.lines by).client.led c.servers)
-  taken_some = subst (λ o. In asks (taken_leads by o c.servers)) (sym led_is) (In_all (taken_at by (Some m)) asks s c.servers s_in taken_here)
+  taken_some = subst (λ o. In asks (taken_leads by o c.servers)) (sym led_is)
+      (In_all (taken_at by (Some m)) asks s c.servers s_in taken_here)
 
   pub its_up : (ends_in c by).up ≡ Lead (lead_of m) ∷ []
   its_up =
@@ -278,7 +279,8 @@ module _ (k skew greatest : ℕ) (c : Cluster) (s : Server) (at : slice_get c.se
   its_held : (b : Bool) → waits ≡ b
       → held by ≡ (let z : Ends = record { client = (c.lines by).client; up = []; down = cond b (its_end ∷ []) [] ++ heard } in z)
   its_held b e =
-      ap₂ (λ (us : List ClientMsg) (os : List Answer). let z : Ends = record { client = (c.lines by).client; up = us; down = os ++ heard } in z)
+      ap₂ (λ (us : List ClientMsg) (os : List Answer). let z : Ends =
+          record { client = (c.lines by).client; up = us; down = os ++ heard } in z)
       (ap₂ (λ (us : List ClientMsg) (ts : List ClientMsg). us ++ ts) asks_no_more taken_gone) (its_owed b e)
 
   others_held : (y : Session) → (by.0 == y.0) ≡ false → held y ≡ ends_in c y
@@ -299,7 +301,8 @@ module _ (k skew greatest : ℕ) (c : Cluster) (s : Server) (at : slice_get c.se
   others_then y off = then_is y ∙ now out ∙ others_held y off
     where
       now : (o : List (ℕ × ℕ)) → world.with_sent (ends_now o by (end_of_decision d)) held y ≡ held y
-      now [] = ap (λ b. let z : Ends = cond b (let w : Ends = record (held y) { down = (held y).down ++ its_end ∷ [] } in w) (held y) in z) off
+      now [] =
+          ap (λ b. let z : Ends = cond b (let w : Ends = record (held y) { down = (held y).down ++ its_end ∷ [] } in w) (held y) in z) off
       now (n ∷ ns) = refl
 
   -- where no other server has to do anything
