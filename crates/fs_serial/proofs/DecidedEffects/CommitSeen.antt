@@ -1,15 +1,14 @@
 -- A leader commits: what all hold together is changed by the operation.
 use mathlib.Core.Path.{fun_ext}
-use Rattle.std.proofs.Common.{◌≡◌, ℕ, zero, suc, Bool, true, false, List, [], ◌∷◌, ◌++◌, map, cond, refl, sym, ap, ap₂, ◌∙◌, subst}
+use Rattle.std.proofs.Common.{◌≡◌, ℕ, zero, suc, Bool, true, false, List, [], ◌∷◌, ◌++◌, map, cond, refl, sym, ap, ap₂, ◌∙◌}
 use Rattle.std.specs.Prelude.{Option, Some, None, slice_get, unwrap_or}
-use Rattle.std.specs.FinMap.{entries}
 use Rattle.std.specs.List.{flat_map, list_any}
 use Rattle.fs_ident.specs.Ident.{same}
 use Rattle.fs_ident.specs.In.{In}
 use Rattle.fs_ident.specs.declared.actor.Session.{Session}
 use Rattle.fs_ident.specs.declared.actor.TxnNo.{TxnNo}
 use Rattle.fs_ident.proofs.Same.{same_is}
-use Rattle.fs_ident.proofs.Standing.{In-front, In-got}
+use Rattle.fs_ident.proofs.Standing.{In-got}
 use Rattle.fs_field.specs.After.{changed_file}
 use Rattle.fs_field.specs.declared.effect.Effect.{Effect}
 use Rattle.fs_field.specs.declared.row.Row.{Row}
@@ -18,9 +17,7 @@ use Rattle.fs_model.specs.Asking.{home_of}
 use Rattle.fs_parcel.proofs.Both.{passing}
 use Rattle.fs_record.specs.Applied.{records_after_all}
 use Rattle.fs_record.specs.LedEffects.{led_effects}
-use Rattle.fs_record.specs.Moving.{with_records}
 use Rattle.fs_record.specs.Records.{RecordMap}
-use Rattle.fs_record.specs.declared.record.Record.{Record}
 use Rattle.fs_server.specs.Concludes.{concludes}
 use Rattle.fs_server.specs.LeadingLaws.{CommitSplits, goes_from, has_effect}
 use Rattle.fs_server.specs.Server.{Stepped, is_mine}

@@ -1,5 +1,5 @@
 -- A leader commits: all that holds of the world holds after it.
-use Rattle.std.proofs.Common.{◌≡◌, ℕ, true, false, not, Bool, List, [], ◌∷◌, ◌++◌, map, refl, sym, ap, ap₂, ◌∙◌, subst, inl, inr}
+use Rattle.std.proofs.Common.{◌≡◌, ℕ, true, false, not, Bool, List, [], ◌∷◌, ◌++◌, refl, sym, ap, ap₂, ◌∙◌, subst, inl, inr}
 use Rattle.std.specs.Prelude.{Some, None, is_some, slice_get}
 use Rattle.std.specs.FinMap.{get}
 use Rattle.std.proofs.lemmas.Bool.{not-true}
@@ -10,30 +10,25 @@ use Rattle.fs_ident.specs.declared.actor.Session.{Session}
 use Rattle.fs_ident.specs.declared.kind.Kind.{Kind}
 use Rattle.fs_ident.specs.declared.kind.Kind.TheVariants.{File}
 use Rattle.fs_ident.proofs.Standing.{In-append, In-behind, In-filter, In-got, In-map, In-mapped}
-use Rattle.fs_field.specs.After.{changed_file}
 use Rattle.fs_field.specs.declared.effect.Effect.{Effect}
 use Rattle.fs_field.specs.declared.effect.Effect.TheVariants.{SetChild, SetParent, NewNode, RemoveNode, AddHandle, RemoveHandle, SetInfo}
 use Rattle.fs_field.specs.declared.row.Row.{Row}
 use Rattle.fs_field.specs.declared.used.Part.{Part}
 use Rattle.fs_model.specs.Asking.{home_of}
-use Rattle.fs_model.specs.Namespace.{NodeMap}
-use Rattle.fs_model.specs.Sound.{kind_of, parent_of}
+use Rattle.fs_model.specs.Sound.{kind_of}
 use Rattle.fs_model.specs.Step.{children_of}
-use Rattle.fs_model.specs.declared.node.Node.{Node}
 use Rattle.fs_model.specs.declared.op.Op.{Op}
 use Rattle.fs_model.specs.declared.op.Op.TheVariants as op
-use Rattle.fs_model.specs.declared.reply.Reply.{Reply}
-use Rattle.fs_msg.specs.declared.answer.Answer.{Answer}
 use Rattle.fs_msg.specs.declared.answer.Answer.TheVariants as answer
 use Rattle.fs_msg.specs.declared.client_msg.ClientMsg.TheVariants as message
 use Rattle.fs_msg.specs.declared.item.Item.{Item}
 use Rattle.fs_msg.specs.declared.lead.Lead.{Lead as ToLead}
 use Rattle.fs_parcel.proofs.Both.{passing}
-use Rattle.fs_record.specs.Applied.{node_change, records_after_all}
+use Rattle.fs_record.specs.Applied.{records_after_all}
 use Rattle.fs_record.specs.Fresh.{is_dir}
 use Rattle.fs_record.specs.LedEffects.{led_effects}
 use Rattle.fs_record.specs.Records.{AreRecords, RecordMap, node_of, nodes_of}
-use Rattle.fs_record.specs.ValueOf.{handles_of, value_of}
+use Rattle.fs_record.specs.ValueOf.{handles_of}
 use Rattle.fs_record.specs.declared.led_end.LedEnd.TheVariants as end
 use Rattle.fs_record.proofs.AllApplied.{after_all_kept}
 use Rattle.fs_record.proofs.NodeMaps.{node_there}
@@ -44,23 +39,20 @@ use Rattle.fs_server.specs.LeadingLaws.{CommitSplits, goes_from}
 use Rattle.fs_server.specs.Leads.{led_item}
 use Rattle.fs_server.specs.Server.{is_mine}
 use Rattle.fs_server.specs.declared.state.Server.{Server}
-use Rattle.fs_txn.specs.Decided.{ChangesOther, IsApart, IsDecided, going, held_with, staying}
+use Rattle.fs_txn.specs.Decided.{IsApart, going, held_with, staying}
 use Rattle.fs_txn.specs.Deciding.{commit, decision, first_end, reply_of}
 use Rattle.fs_txn.specs.Grants.{Decided, IsBare, effects_in}
 use Rattle.fs_txn.specs.Leading.{own_parts}
 use Rattle.fs_txn.specs.Parts.{source_of}
-use Rattle.fs_txn.specs.declared.decision.Decision.{Decision}
 use Rattle.fs_txn.specs.declared.leading.Leading.{Leading}
 use Rattle.fs_view.specs.LedLaws.{IsLed}
 use Rattle.fs_serial.specs.Cluster.{Cluster, parcels_of}
 use Rattle.fs_serial.specs.Commits.{IsCommitted}
 use Rattle.fs_serial.specs.Conclusions.{after_concluded, with_items}
-use Rattle.fs_serial.specs.Decided.{DecidedFits, DecidedStands, IsOfFile, IsSplit, WorldStands, after_commit, decided_for}
-use Rattle.fs_serial.specs.Exchange.{IsToBeLed, due}
-use Rattle.fs_serial.specs.Fresh.{IsMade}
+use Rattle.fs_serial.specs.Decided.{DecidedFits, IsOfFile, IsSplit, WorldStands, after_commit, decided_for}
 use Rattle.fs_serial.specs.Joined.{records_of_all}
 use Rattle.fs_serial.specs.Leading.{IsLeading, LedHolds}
-use Rattle.fs_serial.specs.Led.{IsLeadAnswer, LedStands}
+use Rattle.fs_serial.specs.Led.{LedStands}
 use Rattle.fs_serial.specs.Locks.{at_home}
 use Rattle.fs_serial.specs.Meanwhile.{ClusterStands, held_meanwhile, world_meanwhile}
 use Rattle.fs_serial.specs.Owed.{ends_in}
@@ -69,12 +61,12 @@ use Rattle.fs_serial.specs.Seen.{given_at, reaps_at}
 use Rattle.fs_serial.specs.Settled.{Settled}
 use Rattle.fs_serial.specs.Sight.{Sight}
 use Rattle.fs_serial.specs.Words.{decided_in}
-use Rattle.fs_serial.specs.World.{Ends, World, WorldHolds, settled_at, sight_in, with_answer, without_question}
+use Rattle.fs_serial.specs.World.{World, WorldHolds, settled_at, sight_in, with_answer, without_question}
 use Rattle.fs_serial.proofs.DecidedEffects.CommitSeen.{decided_is, decision_is, goes_same, held_is, is_relock, records_are, relock, rows_are}
 use Rattle.fs_serial.proofs.DecidedEffects.DecideSeen.{StaysDecided, fits_again}
 use Rattle.fs_serial.proofs.DecidedEffects.DecidedOwed.{decided_owed}
 use Rattle.fs_serial.proofs.DecidedEffects.FileApart.{IsFileApart}
-use Rattle.fs_serial.proofs.DecidedEffects.GuardsAgain.{IsPut, all_put, decided_again, guarded_again}
+use Rattle.fs_serial.proofs.DecidedEffects.GuardsAgain.{IsPut, all_put, decided_again}
 use Rattle.fs_serial.proofs.DecidedEffects.LedPuts.{AreBare, ArePut, beside, each_fits, put_past}
 use Rattle.fs_serial.proofs.DecidedEffects.RelockedWorld.{relocked_holds, with_locks}
 use Rattle.fs_serial.proofs.DecidedEffects.StandPast.{AllApart}
@@ -160,12 +152,14 @@ module _ (k skew greatest : ℕ) (c : Cluster) (s : Server) (at : slice_get c.se
   item_is : admitted_of (decision l.leader None) l.leader ≡ led_item by m ∷ []
   item_is =
       ap (λ x. admitted_of x l.leader) decided_so
-      ∙ ap₂ (λ n o. let i : Item = record { by = Client by; n = n; op = o; reply = reply_of o } in i ∷ []) leads.leader.number leads.leader.op
+      ∙ ap₂ (λ n o. let i : Item = record { by = Client by; n = n; op = o; reply = reply_of o } in
+          i ∷ []) leads.leader.number leads.leader.op
 
   end_is : end.Done (reply_of m.op) ≡ end_of_decision (decision l.leader None)
   end_is = ap (λ o. end.Done (reply_of o)) (sym leads.leader.op) ∙ sym (ap end_of_decision decided_so)
 
-  module _ (up : (ends_in c by).up ≡ message.Lead m ∷ []) (committed : IsCommitted (sight_in w) by (settled_at by (ends_in c by)) d.entry d.file)
+  module _ (up : (ends_in c by).up ≡ message.Lead m ∷ [])
+      (committed : IsCommitted (sight_in w) by (settled_at by (ends_in c by)) d.entry d.file)
       (of_files : IsOfFiles d.entry.op d.kind) (apart : IsFileApart d.entry.op d.file)
       (own : (n : ℕ × ℕ) (p : Part) → In n (own_parts s.me l) → slice_get l.leader.parts n.0 ≡ Some p → is_mine s p.file ≡ true)
       (splits : CommitSplits) (led : LedHolds then) where
@@ -211,7 +205,8 @@ module _ (k skew greatest : ℕ) (c : Cluster) (s : Server) (at : slice_get c.se
     second = with_locks change (after_commit sends s.txns by m w)
 
     second_holds : WorldHolds greatest second
-    second_holds = relocked_holds change (home_relock s (relock k skew greatest c s at h l there yes) (is_relock k skew greatest c s at h l there yes))
+    second_holds =
+        relocked_holds change (home_relock s (relock k skew greatest c s at h l there yes) (is_relock k skew greatest c s at h l there yes))
         greatest (after_commit sends s.txns by m w) first
 
     told_same : (y : Session) → second.ends y ≡ told k skew greatest c s at h l there (decision l.leader None) y
@@ -222,7 +217,8 @@ module _ (k skew greatest : ℕ) (c : Cluster) (s : Server) (at : slice_get c.se
         alike_holds greatest (record second { ends = ends_in then }) (world_meanwhile t then) (record {
           rows = rows_are k skew greatest c s at h l there yes;
           records = held_then
-              ∙ ap (λ es. held_with (effects_in (decided_in c ++ decided_for by (going sends es))) (records_after_all records (staying sends es)))
+              ∙ ap (λ es. held_with (effects_in (decided_in c ++ decided_for by (going sends es)))
+                  (records_after_all records (staying sends es)))
               effects_are;
           skew = refl;
           given = λ j. count_set given_at c.servers k s.me s.given t (h.places.numbered k s at) j;
@@ -252,7 +248,8 @@ module _ (k skew greatest : ℕ) (c : Cluster) (s : Server) (at : slice_get c.se
 
     abbrev GoPast : List Effect → Type 0
     GoPast xs = AllApart (decided_in c) xs × ((f : Effect → Bool) → IsSplit f xs
-        → held_with (effects_in (decided_in c ++ decided_for by (going f xs))) (records_after_all records (staying f xs)) ≡ records_after_all held xs)
+        → held_with (effects_in (decided_in c ++ decided_for by (going f xs))) (records_after_all records (staying f xs))
+            ≡ records_after_all held xs)
 
     go_past : GoPast es
     go_past = subst GoPast (sym effects_are) (subst (λ (x : TheLed). IsCommitted now by its x.entry x.file → GoPast (effects_by x)) same_led
@@ -271,7 +268,8 @@ module _ (k skew greatest : ℕ) (c : Cluster) (s : Server) (at : slice_get c.se
     }
 
     its_fits : ArePut held es × AreBare held es
-    its_fits = subst (λ xs. ArePut held xs × AreBare held xs) (sym effects_are) (each_fits held by d.entry.op d.file (reply_of d.entry.op) led_so)
+    its_fits =
+        subst (λ xs. ArePut held xs × AreBare held xs) (sym effects_are) (each_fits held by d.entry.op d.file (reply_of d.entry.op) led_so)
 
     -- it was decided before, or is of this operation
     put : (x : Decided) → In x (decided_in then) → IsPut then x
@@ -313,7 +311,8 @@ module _ (k skew greatest : ℕ) (c : Cluster) (s : Server) (at : slice_get c.se
           going_past records (RemoveNode f) (staying sends es) (λ e j. split.apart (RemoveNode f) e i j)
           ∙ sym (going_past records (RemoveNode f) (effects_in (decided_in c)) (λ e j.
             let q = In-map effect_of e (decided_in c) j in
-            subst (IsApart (RemoveNode f)) (sym q.1.1) (beside (q.0).effect f (view.1.all.stand q.0 q.1.0).decided (go_past.0 q.0 q.1.0 (RemoveNode f) among))))
+            subst (IsApart (RemoveNode f)) (sym q.1.1)
+                (beside (q.0).effect f (view.1.all.stand q.0 q.1.0).decided (go_past.0 q.0 q.1.0 (RemoveNode f) among))))
 
       file_is : (d.file ≡ f) × (d.kind ≡ File)
       file_is = goes_file d.entry.op d.file f d.kind of_files (subst (In (RemoveNode f)) effects_are among)

@@ -1,6 +1,6 @@
 -- Each session for which something is decided and not applied yet is owed an answer.
-use Rattle.std.proofs.Common.{◌≡◌, ◌==◌, ℕ, List, [], ◌++◌, filter, not, true, refl, sym, ap, ◌∙◌, subst}
-use Rattle.std.specs.Prelude.{Option, Some, None, slice_get}
+use Rattle.std.proofs.Common.{◌≡◌, ◌==◌, List, [], filter, not, true, refl, ap, ◌∙◌, subst}
+use Rattle.std.specs.Prelude.{Some, None, slice_get}
 use Rattle.fs_ident.specs.In.{In}
 use Rattle.fs_ident.specs.declared.actor.Session.{Session}
 use Rattle.fs_ident.specs.declared.actor.TxnNo.{TxnNo}
@@ -46,5 +46,6 @@ decided_owed c d i none =
         In-mapped (λ (z : Ending). answer.Led z.end) x (filter its (at.0).ending) (kept_in its x (at.0).ending at.1.1 own) in
     let all : In a (owed_to d.by c.servers) = In_all (owed_at d.by) a at.0 c.servers at.1.0 here in
     let among : In a (due (ends_in c d.by).down) =
-        kept_in (λ z. not (is_recall z)) a (ends_in c d.by).down (In-front a (owed_to d.by c.servers) (messages (c.lines d.by).down) all) refl in
+        kept_in (λ z. not (is_recall z)) a (ends_in c d.by).down
+            (In-front a (owed_to d.by c.servers) (messages (c.lines d.by).down) all) refl in
     absurd (subst (In a) none among)

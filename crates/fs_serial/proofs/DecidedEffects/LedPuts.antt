@@ -1,87 +1,27 @@
 -- What a delete or a rename does: the file that moves has its place, and one that goes has nothing in it.
-use Rattle.std.proofs.Common.{◌≡◌, ℕ, true, false, not, Bool, List, [], ◌∷◌, ◌++◌, map, refl, sym, ap, ap₂, ◌∙◌, subst, inl, inr}
-use Rattle.std.specs.Prelude.{Option, Some, None, slice_get}
+use Rattle.std.proofs.Common.{◌≡◌, ℕ, List, [], ◌∷◌, refl, sym, ap, ◌∙◌, subst, inl, inr}
+use Rattle.std.specs.Prelude.{Option, Some, None}
 use Rattle.std.specs.FinMap.{get}
-use Rattle.std.proofs.lemmas.Bool.{not-true}
-use Rattle.fs_ident.specs.Ident.{same}
 use Rattle.fs_ident.specs.In.{In}
 use Rattle.fs_ident.specs.declared.actor.Session.{Session}
-use Rattle.fs_ident.specs.declared.kind.Kind.{Kind}
-use Rattle.fs_ident.specs.declared.kind.Kind.TheVariants.{File}
-use Rattle.fs_ident.proofs.Standing.{In-append, In-filter, In-got, In-map}
-use Rattle.fs_field.specs.After.{changed_file}
 use Rattle.fs_field.specs.declared.effect.Effect.{Effect}
 use Rattle.fs_field.specs.declared.effect.Effect.TheVariants.{SetChild, SetParent, NewNode, RemoveNode, AddHandle, RemoveHandle, SetInfo}
-use Rattle.fs_field.specs.declared.row.Row.{Row}
-use Rattle.fs_field.specs.declared.used.Part.{Part}
-use Rattle.fs_model.specs.Asking.{home_of}
 use Rattle.fs_model.specs.Namespace.{NodeMap}
-use Rattle.fs_model.specs.Sound.{kind_of, parent_of}
+use Rattle.fs_model.specs.Sound.{parent_of}
 use Rattle.fs_model.specs.Step.{children_of}
 use Rattle.fs_model.specs.declared.node.Node.{Node}
 use Rattle.fs_model.specs.declared.op.Op.{Op}
-use Rattle.fs_model.specs.declared.op.Op.TheVariants as op
 use Rattle.fs_model.specs.declared.reply.Reply.{Reply}
-use Rattle.fs_msg.specs.declared.answer.Answer.{Answer}
-use Rattle.fs_msg.specs.declared.answer.Answer.TheVariants as answer
-use Rattle.fs_msg.specs.declared.client_msg.ClientMsg.TheVariants as message
-use Rattle.fs_msg.specs.declared.item.Item.{Item}
-use Rattle.fs_msg.specs.declared.lead.Lead.{Lead as ToLead}
-use Rattle.fs_parcel.proofs.Both.{passing}
 use Rattle.fs_record.specs.Applied.{node_change, records_after_all}
-use Rattle.fs_record.specs.Fresh.{is_dir}
 use Rattle.fs_record.specs.LedEffects.{led_effects}
-use Rattle.fs_record.specs.Records.{AreRecords, RecordMap, node_of, nodes_of}
-use Rattle.fs_record.specs.ValueOf.{handles_of, value_of}
-use Rattle.fs_record.specs.declared.led_end.LedEnd.TheVariants as end
-use Rattle.fs_record.proofs.AllApplied.{after_all_kept}
+use Rattle.fs_record.specs.Records.{RecordMap, node_of, nodes_of}
+use Rattle.fs_record.specs.ValueOf.{handles_of}
 use Rattle.fs_record.proofs.NodeMaps.{node_there}
-use Rattle.fs_client.specs.Led.{lead_of}
-use Rattle.fs_client.specs.declared.led.Led.{Led as TheLed}
-use Rattle.fs_server.specs.Concludes.{admitted_of, concludes, end_of_decision}
-use Rattle.fs_server.specs.LeadingLaws.{CommitSplits}
-use Rattle.fs_server.specs.Leads.{led_item}
-use Rattle.fs_server.specs.Server.{is_mine}
-use Rattle.fs_server.specs.declared.state.Server.{Server}
-use Rattle.fs_txn.specs.Decided.{ChangesOther, IsApart, IsDecided, going, held_with, staying}
-use Rattle.fs_txn.specs.Deciding.{decision, first_end, reply_of}
-use Rattle.fs_txn.specs.Grants.{Decided, IsBare, effects_in}
-use Rattle.fs_txn.specs.Leading.{own_parts}
-use Rattle.fs_txn.specs.Parts.{source_of}
-use Rattle.fs_txn.specs.declared.decision.Decision.{Decision}
-use Rattle.fs_txn.specs.declared.leading.Leading.{Leading}
+use Rattle.fs_txn.specs.Decided.{ChangesOther, IsApart, IsDecided}
 use Rattle.fs_view.specs.LedLaws.{IsLed}
-use Rattle.fs_view.proofs.LedValues.{IsMoving, IsRemoval, each_led}
-use Rattle.fs_serial.specs.Cluster.{Cluster, parcels_of}
-use Rattle.fs_serial.specs.Commits.{IsCommitted}
-use Rattle.fs_serial.specs.Conclusions.{after_concluded, with_items}
-use Rattle.fs_serial.specs.Decided.{DecidedFits, DecidedStands, IsOfFile, IsSplit, WorldStands, after_commit, decided_for}
-use Rattle.fs_serial.specs.Exchange.{IsToBeLed, due}
-use Rattle.fs_serial.specs.Fresh.{IsMade}
-use Rattle.fs_serial.specs.Joined.{records_of_all}
-use Rattle.fs_serial.specs.Leading.{IsLeading, LedHolds}
-use Rattle.fs_serial.specs.Led.{IsLeadAnswer, LedStands}
-use Rattle.fs_serial.specs.Locks.{at_home}
-use Rattle.fs_serial.specs.Meanwhile.{ClusterStands, held_meanwhile, world_meanwhile}
-use Rattle.fs_serial.specs.Owed.{ends_in}
-use Rattle.fs_serial.specs.Refusals.{rows_in}
-use Rattle.fs_serial.specs.Seen.{given_at, reaps_at}
-use Rattle.fs_serial.specs.Sight.{Sight}
-use Rattle.fs_serial.specs.Words.{decided_in}
-use Rattle.fs_serial.specs.World.{Ends, World, WorldHolds, settled_at, sight_in, with_answer, without_question}
-use Rattle.fs_serial.proofs.DecidedEffects.CommitSeen.{all_effects, all_records, committing, decided_is, decision_is, goes, goes_same, held_is, is_relock, records_are, relock, rows_are}
-use Rattle.fs_serial.proofs.DecidedEffects.FileApart.{IsFileApart}
-use Rattle.fs_serial.proofs.DecidedEffects.GuardsAgain.{IsPut, all_put, decided_again, guarded_again}
-use Rattle.fs_serial.proofs.DecidedEffects.Owing.{answered_owed, led_owed}
-use Rattle.fs_serial.proofs.DecidedEffects.StandPast.{AllApart}
+use Rattle.fs_view.proofs.LedValues.{IsRemoval, each_led}
 use Rattle.fs_serial.proofs.DecidedEffects.ToldParts.{IsPutIn}
-use Rattle.fs_serial.proofs.DecidedEffects.Underway.{PlaceStays, going_past, locks_stay, node_changed, place_past, stands_then}
-use Rattle.fs_serial.proofs.LedOperations.Committing.{kind_there}
-use Rattle.fs_serial.proofs.LedOperations.LedSteps.{commit_past_all, effects_past, led_stands, one_step, to_lead}
-use Rattle.fs_serial.proofs.OtherSessions.Gone.{made_more}
-use Rattle.fs_serial.proofs.Places.RelockedRows.{home_relock}
-use Rattle.fs_serial.proofs.Transactions.ToldOrOwed.{ends_hold, others_then, told}
-use Rattle.fs_serial.proofs.WholeRuns.Views.{alike_holds, count_set}
+use Rattle.fs_serial.proofs.DecidedEffects.Underway.{PlaceStays, node_changed, place_past}
 
 -- what is apart from the going of a file is on other files
 pub beside : (d : Effect) (f : List ℕ) → IsDecided d → IsApart d (RemoveNode f) → IsApart (RemoveNode f) d

@@ -64,7 +64,8 @@ module _ (k : ℕ) (c : Cluster) (s : Server) (at : slice_get c.servers k ≡ So
       alone key place w prepared true e h = absurd (cc)
       alone key place w prepared false e h = h.here
 
-  ready_there : (n : ℕ × ℕ) → slice_get l.leader.votes n.0 ≡ Some (Some Yes) → slice_get l.at n.0 ≡ Some n.1
+  -- the server of a part that said Yes elsewhere has it ready
+  pub ready_there : (n : ℕ × ℕ) → slice_get l.leader.votes n.0 ≡ Some (Some Yes) → slice_get l.at n.0 ≡ Some n.1
       → (n.1 == s.me) ≡ false → IsReadyElsewhere c held.parts l n
   ready_there n v a f =
       let part = in_range l.leader.votes l.leader.parts n.0 (Some Yes) leads.votes v in
