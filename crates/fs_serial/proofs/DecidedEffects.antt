@@ -16,5 +16,8 @@ pub mod OwnApart
 pub mod GuardsAgain
 pub mod DecisionSeen
 pub mod CommitSeen
+pub mod DecidedOwed
+pub mod LedPuts
+pub mod CommitStands
 pub mod RelockedWorld
 pub mod DecideSeen
