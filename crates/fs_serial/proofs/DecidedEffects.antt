@@ -17,3 +17,4 @@ pub mod GuardsAgain
 pub mod CommitSeen
 pub mod RelockedWorld
 pub mod DecideSeen
+pub mod ConcludedTold
