@@ -82,7 +82,7 @@ abbrev pub HasNewName : List Row → TxnNo → Session → Op → Type 0
 HasNewName rows txn by (op.Rename sdir sname ddir dname) = HasLockFor rows txn by (Child ddir dname) Exclusive
 HasNewName rows txn by o = Unit {0}
 
-enough_so : (had wanted : LeaseKind) → lease.is_enough had wanted ≡ true → is_enough wanted had ≡ true
+pub enough_so : (had wanted : LeaseKind) → lease.is_enough had wanted ≡ true → is_enough wanted had ≡ true
 enough_so Shared Shared h = refl
 enough_so Shared Exclusive h = h
 enough_so Exclusive Shared h = refl

@@ -46,7 +46,7 @@ module _ (k skew greatest : ℕ) (c : Cluster) (s : Server) (at : slice_get c.se
   pub all_stand : AllStand (rows_in c) by d.entry.uses
   all_stand = full_stands k skew greatest c s at h l there d client none
 
-  home_yes : slice_get l.leader.votes 0 ≡ Some (Some Yes)
+  pub home_yes : slice_get l.leader.votes 0 ≡ Some (Some Yes)
   home_yes =
       let v = in_range l.at l.leader.votes 0 s.me (leads.asked ∙ sym leads.votes) leads.home in
       voted_all l.leader leads.leader.mode none 0 v.0 v.1
