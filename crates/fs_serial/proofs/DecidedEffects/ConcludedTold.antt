@@ -9,10 +9,10 @@ use Rattle.fs_ident.specs.Ident.{same}
 use Rattle.fs_ident.specs.declared.actor.Session.{Session}
 use Rattle.fs_ident.specs.declared.actor.TxnNo.{TxnNo}
 use Rattle.fs_ident.proofs.Same.{itself, same_is, same_self}
-use Rattle.fs_ident.proofs.Standing.{In-append, In-behind, In-got, In-map, In-mapped}
+use Rattle.fs_ident.proofs.Standing.{In-append, In-behind, In-got, In-map}
 use Rattle.fs_field.specs.After.{changed_file}
 use Rattle.fs_field.specs.Field.{file_of}
-use Rattle.fs_field.specs.Table.{is_lock_of, same_txn, unlocked_row}
+use Rattle.fs_field.specs.Table.{same_txn}
 use Rattle.fs_field.specs.declared.asked.Need.TheVariants as need
 use Rattle.fs_field.specs.declared.effect.Effect.{Effect}
 use Rattle.fs_field.specs.declared.field.Field.TheVariants.{Child}
@@ -35,7 +35,7 @@ use Rattle.fs_server.specs.Concludes.{concludes, keeps_for}
 use Rattle.fs_server.specs.declared.state.Server.{Server}
 use Rattle.fs_txn.specs.Deciding.{agreed, commit, decision, effects_on, first_end, keeps_rows, reply_of, told_effects, unless_ended}
 use Rattle.fs_txn.specs.Guards.{is_enough}
-use Rattle.fs_txn.specs.Leading.{elsewhere, end_of_decision, leading_of, said_by, stage_in}
+use Rattle.fs_txn.specs.Leading.{elsewhere, said_by}
 use Rattle.fs_txn.specs.Locks.{Agreed, rows_unlocked}
 use Rattle.fs_txn.specs.Parts.{led_files, part_at, uses_on}
 use Rattle.fs_txn.specs.Ready.{agreed_of}
@@ -44,7 +44,7 @@ use Rattle.fs_txn.specs.Stages.Word.{Decide}
 use Rattle.fs_txn.specs.declared.decision.Decision.{Decision}
 use Rattle.fs_txn.specs.declared.leading.Leading.{Leading}
 use Rattle.fs_txn.specs.declared.mode.Mode2.TheVariants.{Plain}
-use Rattle.fs_txn.proofs.Keys.{kept_in, txn_is}
+use Rattle.fs_txn.proofs.Keys.{kept_in}
 use Rattle.fs_view.specs.Gone.{known_with}
 use Rattle.fs_view.specs.LedLaws.{IsLed}
 use Rattle.fs_view.specs.Walk.{Known, always, walk}
@@ -57,17 +57,18 @@ use Rattle.fs_serial.specs.Meanwhile.{ClusterStands, world_meanwhile}
 use Rattle.fs_serial.specs.Owed.{ends_in}
 use Rattle.fs_serial.specs.Pending.{HasUse}
 use Rattle.fs_serial.specs.Sight.{Sight}
-use Rattle.fs_serial.specs.Words.{desks_of, ended_in, key_of, leading_at, led_in, rows_at, telling_of}
+use Rattle.fs_serial.specs.Words.{key_of, rows_at, telling_of}
 use Rattle.fs_serial.specs.World.{settled_at, sight_in}
 use Rattle.fs_serial.proofs.DecidedEffects.CommitSeen.{decision_is}
-use Rattle.fs_serial.proofs.DecidedEffects.Deciding.{not_awaited}
+use Rattle.fs_serial.proofs.DecidedEffects.DecisionSeen as decides
 use Rattle.fs_serial.proofs.DecidedEffects.FileApart.{IsFileApart, file_apart}
 use Rattle.fs_serial.proofs.DecidedEffects.ToldCovered.{HasNewName, each_covered, enough_so, few_on}
 use Rattle.fs_serial.proofs.LedOperations.MovedItems.{HasPlace, moved_parts, placed_items}
 use Rattle.fs_serial.proofs.Lists.ByPlace.{map_at, of_map}
-use Rattle.fs_serial.proofs.Transactions.Decisions.{decision_word, decision_words}
-use Rattle.fs_serial.proofs.Transactions.Desks.{IsDecidingWord, deciding_word, is_at, telling_append, told_then}
+use Rattle.fs_serial.proofs.Transactions.Decisions.{decision_word}
+use Rattle.fs_serial.proofs.Transactions.Desks.{is_at, told_then}
 use Rattle.fs_serial.proofs.Transactions.FullCommits.{all_stand, full_commits, home_yes}
+use Rattle.fs_serial.proofs.Transactions.LedDecided.{unlocked_stay}
 use Rattle.fs_serial.proofs.Transactions.PartsApart.{first_part, parts_apart}
 use Rattle.fs_serial.proofs.Transactions.Tables.{In_all}
 use Rattle.fs_serial.proofs.Transactions.YesElsewhere.{IsReadyElsewhere, yes_elsewhere}
@@ -111,7 +112,7 @@ module _ (k skew greatest : ℕ) (c : Cluster) (s : Server) (at : slice_get c.se
   mine = ap (λ j. t.server == j) (sym (leads.own ∙ me)) ∙ itself t.server
 
   pub telling_then : telling_of after.in_flight ≡ telling_of c.in_flight ++ map (decision_word k t d) out
-  telling_then = telling_append c.in_flight _ ∙ ap (λ ws. telling_of c.in_flight ++ ws) (decision_words k t d out by (end_of_decision d))
+  telling_then = decides.telling_then k skew greatest c s at h l there d
 
   ready : (x : ℕ × ℕ) → In x out → IsReadyElsewhere c h.led.parts l x
   ready x i = yes_elsewhere k c s at me h.led l there x i
@@ -299,28 +300,8 @@ module _ (k skew greatest : ℕ) (c : Cluster) (s : Server) (at : slice_get c.se
   rows_stay : (u : TxnNo) → same_txn u t ≡ false → (r : Row) → In r s.rows → r.lock ≡ Some u → In r y.rows
   rows_stay u off r i e = elim (keeps_for d out) as (λ b. In r (cond b s.rows (rows_unlocked t s.rows))) [
     | true ↦ i
-    | false ↦ subst (λ z. In z (rows_unlocked t s.rows))
-        (ap (λ b. cond b (let q : Row = record r { lock = None } in q) r) (ap (is_lock_of t) e ∙ off))
-        (In-mapped (unlocked_row t) r s.rows i)
+    | false ↦ unlocked_stay t s.rows r u i e off
   ]
-
-  led_there : led_in c.servers t ≡ Some l
-  led_there =
-      ap (λ n. leading_of t (leading_at (slice_get c.servers n))) (leads.own ∙ me) ∙ ap (λ z. leading_of t (leading_at z)) at ∙ leads.one
-
-  -- it is of other transactions
-  old_apart : (key : Key) (to : ℕ) (effects : List Effect) → In (word_to key to (Decide effects)) (telling_of c.in_flight)
-      → same_txn key.txn t ≡ false
-  old_apart key to effects i = off (same_txn key.txn t) refl
-    where
-      w : IsDecidingWord (desks_of h.led.parts c) key (word_to key to (Decide effects))
-      w = deciding_word (desks_of h.led.parts c) key (word_to key to (Decide effects)) refl h.led.stages i effects refl
-
-      off : (b : Bool) → same_txn key.txn t ≡ b → b ≡ false
-      off true q = absurd (not_awaited (slice_get l.at key.part) (slice_get l.leader.votes key.part) w.at
-          (sym (ap (λ z. stage_in key.part z (ended_in c.servers key.txn)) (ap (led_in c.servers) (txn_is key.txn t q) ∙ led_there))
-          ∙ w.stage))
-      off false q = refl
 
   pub concluded_told : (key : Key) (to : ℕ) (effects : List Effect) → In (word_to key to (Decide effects)) (telling_of after.in_flight)
       → (e : Effect) → In e effects → IsToldOf after.servers key (h.led.parts key) e
@@ -328,7 +309,8 @@ module _ (k skew greatest : ℕ) (c : Cluster) (s : Server) (at : slice_get c.se
       elim (In-append (word_to key to (Decide effects)) (telling_of c.in_flight) (map (decision_word k t d) out)
       (subst (In (word_to key to (Decide effects))) telling_then i)) as (λ _. IsToldOf after.servers key (h.led.parts key) e) [
     | inl old ↦ told_then c.servers k s y at key (h.led.parts key) e
-        (λ q. rows_stay key.txn (old_apart key to effects old)) (h.led.told key to effects old e j)
+        (λ q. rows_stay key.txn
+            (decides.not_its k skew greatest c s at h l there d (word_to key to (Decide effects)) old effects refl)) (h.led.told key to effects old e j)
     | inr new ↦
         let q = In-map (decision_word k t d) (word_to key to (Decide effects)) out new in
         let word : Decide effects ≡ Decide (told_effects d (q.0).0) = ap (λ (z : Told). z.word) q.1.1 in
