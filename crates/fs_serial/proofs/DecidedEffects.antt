@@ -20,3 +20,4 @@ pub mod LedPuts
 pub mod CommitStands
 pub mod RelockedWorld
 pub mod DecideSeen
+pub mod CommitKeeps

@@ -62,7 +62,8 @@ use Rattle.fs_serial.specs.Settled.{Settled}
 use Rattle.fs_serial.specs.Sight.{Sight}
 use Rattle.fs_serial.specs.Words.{decided_in}
 use Rattle.fs_serial.specs.World.{World, WorldHolds, settled_at, sight_in, with_answer, without_question}
-use Rattle.fs_serial.proofs.DecidedEffects.CommitSeen.{decided_is, decision_is, goes_same, held_is, is_relock, records_are, relock, rows_are}
+use Rattle.fs_serial.proofs.DecidedEffects.CommitSeen.{decided_is, decision_is, goes_same, held_is, is_relock}
+use Rattle.fs_serial.proofs.DecidedEffects.CommitSeen.{records_are, relock, rows_are}
 use Rattle.fs_serial.proofs.DecidedEffects.DecideSeen.{StaysDecided, fits_again}
 use Rattle.fs_serial.proofs.DecidedEffects.DecidedOwed.{decided_owed}
 use Rattle.fs_serial.proofs.DecidedEffects.FileApart.{IsFileApart}
