@@ -135,7 +135,7 @@ module _ (values : Field → Value) (d : TheLed) (leads : is_led d.entry.op d.en
       } in
       subst (λ (x : Part). IsUsed x.uses x.file) (sym q.1.1) its
 
--- a file that is deleted is none of the directories
+-- what commits deletes no directory
 files_only : (o : Op) (kind : Kind) → (kind ≡ File) ⊎ StaysIn o → IsOfFiles o kind
 files_only (op.Delete dir name) kind (inl e) = e
 files_only (op.Delete dir name) kind (inr t) = absurd t

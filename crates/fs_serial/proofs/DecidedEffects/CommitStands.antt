@@ -80,7 +80,7 @@ use Rattle.fs_serial.proofs.Places.RelockedRows.{home_relock}
 use Rattle.fs_serial.proofs.Transactions.ToldOrOwed.{ends_hold, told}
 use Rattle.fs_serial.proofs.WholeRuns.Views.{alike_holds, count_set}
 
--- a file that goes is none of the directories
+-- what is deleted is a file, and no directory
 abbrev pub IsOfFiles : Op → Kind → Type 0
 IsOfFiles (op.Delete dir name) kind = kind ≡ File
 IsOfFiles o kind = Unit {0}
