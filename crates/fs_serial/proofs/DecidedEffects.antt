@@ -22,3 +22,4 @@ pub mod CommitStands
 pub mod RelockedWorld
 pub mod DecideSeen
 pub mod ConcludedTold
+pub mod CommitKeeps

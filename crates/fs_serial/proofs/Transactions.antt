@@ -34,6 +34,7 @@ pub mod ToldOrOwed
 pub mod StandsAfter
 pub mod PutOff
 pub mod Aborted
+pub mod OtherEvents
 pub mod PlacesAfter
 pub mod YesElsewhere
 pub mod DecisionPlaces

@@ -23,7 +23,8 @@ use Rattle.fs_server.specs.LeadingLaws.{CommitSplits, goes_from, has_effect}
 use Rattle.fs_server.specs.Server.{Stepped, is_mine}
 use Rattle.fs_server.specs.declared.state.Server.{Server}
 use Rattle.fs_txn.specs.Decided.{going, held_with, staying}
-use Rattle.fs_txn.specs.Deciding.{agreed, by_path, commit, decision, effects_on, first_end, needs_path, reply_of, told_effects, unless_ended}
+use Rattle.fs_txn.specs.Deciding.{agreed, by_path, commit, decision, effects_on, first_end}
+use Rattle.fs_txn.specs.Deciding.{needs_path, reply_of, told_effects, unless_ended}
 use Rattle.fs_txn.specs.Grants.{effects_in}
 use Rattle.fs_txn.specs.Leading.{IsWholeLeader, elsewhere, own_effects, own_parts}
 use Rattle.fs_txn.specs.Parts.{parts_of, source_of}

@@ -62,7 +62,8 @@ use Rattle.fs_serial.specs.Settled.{Settled}
 use Rattle.fs_serial.specs.Sight.{Sight}
 use Rattle.fs_serial.specs.Words.{decided_in}
 use Rattle.fs_serial.specs.World.{World, WorldHolds, settled_at, sight_in, with_answer, without_question}
-use Rattle.fs_serial.proofs.DecidedEffects.CommitSeen.{decided_is, decision_is, goes_same, held_is, is_relock, records_are, relock, rows_are}
+use Rattle.fs_serial.proofs.DecidedEffects.CommitSeen.{decided_is, decision_is, goes_same, held_is, is_relock}
+use Rattle.fs_serial.proofs.DecidedEffects.CommitSeen.{records_are, relock, rows_are}
 use Rattle.fs_serial.proofs.DecidedEffects.DecideSeen.{StaysDecided, fits_again}
 use Rattle.fs_serial.proofs.DecidedEffects.DecidedOwed.{decided_owed}
 use Rattle.fs_serial.proofs.DecidedEffects.FileApart.{IsFileApart}
@@ -79,7 +80,7 @@ use Rattle.fs_serial.proofs.Places.RelockedRows.{home_relock}
 use Rattle.fs_serial.proofs.Transactions.ToldOrOwed.{ends_hold, told}
 use Rattle.fs_serial.proofs.WholeRuns.Views.{alike_holds, count_set}
 
--- a file that goes is none of the directories
+-- what is deleted is a file, and no directory
 abbrev pub IsOfFiles : Op → Kind → Type 0
 IsOfFiles (op.Delete dir name) kind = kind ≡ File
 IsOfFiles o kind = Unit {0}

@@ -18,13 +18,13 @@ use Rattle.fs_serial.specs.Places.{PlacesHold}
 use Rattle.fs_serial.specs.Refusals.{rows_in}
 use Rattle.fs_serial.specs.Runs.{held_by}
 use Rattle.fs_serial.specs.Seen.{with_all}
-use Rattle.fs_serial.specs.Sight.{Counts, sight_of}
+use Rattle.fs_serial.specs.Sight.{Counts, count_with, sight_of}
 use Rattle.fs_serial.proofs.Moves.ComingParts.{came_home, came_managed, came_named, came_parts}
 use Rattle.fs_serial.proofs.Lists.Counted.{total_set}
 use Rattle.fs_serial.proofs.Places.HeldRecords.{same_records}
 use Rattle.fs_serial.proofs.Places.HeldRows.{same_rows}
 use Rattle.fs_serial.proofs.Places.OnePlaces.{one_record}
-use Rattle.fs_serial.proofs.Moves.ParcelFits.{flying_fits}
+use Rattle.fs_serial.proofs.Moves.ParcelFits.{RowsStand, flying_fits}
 use Rattle.fs_serial.proofs.Moves.Parcels.{taken_either, taken_less, taken_there, taken_total}
 use Rattle.fs_serial.proofs.Moves.Parted.{IsInPlace, one_whole, record_parted, record_whole, row_parted, row_whole, times_same}
 use Rattle.fs_serial.proofs.Moves.Replaced.{replaced, replaced_places}
@@ -88,11 +88,17 @@ module _ (k from : ℕ) (c : Cluster) (s : Server) (p : Parcel) (at : slice_get 
       rows_then
 
 -- an honest parcel fits where it comes
+pub parcel_stands : (k from : ℕ) (c : Cluster) (s : Server) (p : Parcel) → slice_get c.servers k ≡ Some s → PlacesHold c
+    → find (is_between from k) c.in_flight ≡ Some (record { from = from; to = k; message = peer.Parcel p })
+    → (o : Counts) → RowsStand (count_with s.me s.given o.given) (with_all s c).records (with_all s c).rows → fits_here p s ≡ true
+parcel_stands k from c s p at h way o = flying_fits c h s (here k from c s p at h way) p (flies k from c s p at h way) o
+
 pub parcel_fits : (k from : ℕ) (c : Cluster) (s : Server) (p : Parcel) → slice_get c.servers k ≡ Some s → PlacesHold c
     → find (is_between from k) c.in_flight ≡ Some (record { from = from; to = k; message = peer.Parcel p })
     → (o : Counts) → ServersHold (sight_of o (with_all s c) c.journal) → ServersFit (sight_of o (with_all s c) c.journal)
     → fits_here p s ≡ true
-parcel_fits k from c s p at h way o hold fit = flying_fits c h s (here k from c s p at h way) p (flies k from c s p at h way) o hold fit
+parcel_fits k from c s p at h way o hold fit = parcel_stands k from c s p at h way o
+    (record { apart = hold.apart; promises = hold.promises; counted = fit.counted; given = fit.given })
 
 -- all rows and records are as before
 pub arriving_same : (k from : ℕ) (c : Cluster) (s : Server) (p : Parcel) → slice_get c.servers k ≡ Some s → PlacesHold c

@@ -20,7 +20,7 @@ use Rattle.fs_parcel.proofs.Both.{passing}
 use Rattle.fs_parcel.proofs.Parting.{parcel_formed, parcel_of_given}
 use Rattle.fs_parcel.proofs.Refused.{is_mine as prefix_is_mine}
 use Rattle.fs_record.specs.Moving.{records_left}
-use Rattle.fs_record.specs.Records.{AreRecords, IsRecord}
+use Rattle.fs_record.specs.Records.{AreRecords, IsRecord, RecordMap}
 use Rattle.fs_record.specs.declared.parcel.Parcel.{Parcel}
 use Rattle.fs_record.specs.declared.record.Record.{Record}
 use Rattle.fs_record.proofs.Kept.{record_at}
@@ -33,7 +33,7 @@ use Rattle.fs_server.specs.declared.event.ServerEvent.TheVariants.{Move}
 use Rattle.fs_server.specs.declared.state.Server.{Server}
 use Rattle.fs_msg.specs.declared.server_note.ServerNote.TheVariants as note
 use Rattle.fs_model.specs.Sound.{kind_of}
-use Rattle.fs_record.specs.Records.{node_of}
+use Rattle.fs_record.specs.Records.{AreRecords, RecordMap, node_of}
 use Rattle.fs_serial.specs.Cluster.{Cluster, InFlight, after_step, parcels_of}
 use Rattle.fs_serial.specs.Fresh.{IsMade}
 use Rattle.fs_serial.specs.Joined.{records_of_all, rows_of_all}
@@ -156,7 +156,12 @@ can_move s prefix to h =
 
 -- ## At its place
 
-module _ (k : ℕ) (c : Cluster) (s : Server) (prefix : List ℕ) (to : ℕ) (at : slice_get c.servers k ≡ Some s) (h : PlacesHold c) (o : Counts) (f : ServersFit (sight_of o (with_all s c) c.journal)) (m : CanMove s prefix to) where
+-- what lives was made
+abbrev pub LivesMade : RecordMap → List Item → Type 0
+LivesMade m journal = (id : List ℕ) (kind : Kind) → kind_of (node_of (get m id)) ≡ Some kind → IsMade journal id
+
+module _ (k : ℕ) (c : Cluster) (s : Server) (prefix : List ℕ) (to : ℕ) (at : slice_get c.servers k ≡ Some s) (h : PlacesHold c)
+    (records : AreRecords (held_by c)) (lives : LivesMade (held_by c) c.journal) (m : CanMove s prefix to) where
   abbrev left : Server
   left = without_given prefix to s
 
@@ -178,14 +183,14 @@ module _ (k : ℕ) (c : Cluster) (s : Server) (prefix : List ℕ) (to : ℕ) (at
     where
       go : (o : Option Record) → get s.records id ≡ o → IfSome o IsRecord
       go None e = tt
-      go (Some r) e = record_at (held_by c) f.sound.records id r (of_all id r e)
+      go (Some r) e = record_at (held_by c) records id r (of_all id r e)
 
   -- the prefix was made, since it lives
   prefix_made : IsMade c.journal prefix
   prefix_made =
       let r : (r : Record) × (get s.records prefix ≡ Some r) = there_is (get s.records prefix) m.lives in
       let kind : kind_of (node_of (get (held_by c) prefix)) ≡ Some r.0.node.kind = ap (λ (o : Option Record). kind_of (node_of o)) (of_all prefix r.0 r.1) in
-      ap (λ (o : Option Kind). is_some o) (f.made prefix r.0.node.kind kind)
+      lives prefix r.0.node.kind kind
 
   row_home : (r : Row) → In r (rows_left prefix given s.rows) → is_mine left (file_of r.field) ≡ true
   row_home r i =
@@ -253,11 +258,16 @@ module _ (k : ℕ) (c : Cluster) (s : Server) (prefix : List ℕ) (to : ℕ) (at
       (named_then is)
       (rows_then k c s prefix to at h)
 
+-- where what servers fit is so
+fit_lives : (c : Cluster) (s : Server) (o : Counts) → ServersFit (sight_of o (with_all s c) c.journal) → LivesMade (held_by c) c.journal
+fit_lives c s o f id kind e = ap (λ (k : Option Kind). is_some k) (f.made id kind e)
+
 -- everything is at its place
 pub leaving_places : (k : ℕ) (c : Cluster) (s : Server) (prefix : List ℕ) (to : ℕ) → slice_get c.servers k ≡ Some s → PlacesHold c
     → (o : Counts) → ServersFit (sight_of o (with_all s c) c.journal) → to < length c.servers → move_refusal s.records s.rows s.map s.me prefix to None ≡ None
     → PlacesHold (after_step k (Move prefix to) (hands_over prefix to s) c)
-leaving_places k c s prefix to at h o f is may = places_then k c s prefix to at h o f (can_move s prefix to may) is
+leaving_places k c s prefix to at h o f is may =
+    places_then k c s prefix to at h f.sound.records (fit_lives c s o f) (can_move s prefix to may) is
 
 -- ## The step, whether it is refused or not
 
@@ -280,11 +290,16 @@ move_same k c s prefix to at h = go (move_refusal s.records s.rows s.map s.me pr
     go None = leaving_same k c s prefix to at h
     go (Some why) = (ap rows_in (stays_cluster k c s prefix to why at), ap held_by (stays_cluster k c s prefix to why at))
 
+pub moved_places : (k : ℕ) (c : Cluster) (s : Server) (prefix : List ℕ) (to : ℕ) → slice_get c.servers k ≡ Some s → PlacesHold c
+    → AreRecords (held_by c) → LivesMade (held_by c) c.journal → to < length c.servers
+    → PlacesHold (after_step k (Move prefix to) (move_step prefix to s) c)
+moved_places k c s prefix to at h records lives is = go (move_refusal s.records s.rows s.map s.me prefix to None) refl
+  where
+    go : (e : Option MoveError) → move_refusal s.records s.rows s.map s.me prefix to None ≡ e → PlacesHold (after_step k (Move prefix to) (move_at e prefix to s) c)
+    go None m = places_then k c s prefix to at h records lives (can_move s prefix to m) is
+    go (Some why) m = subst PlacesHold (sym (stays_cluster k c s prefix to why at)) h
+
 pub move_places : (k : ℕ) (c : Cluster) (s : Server) (prefix : List ℕ) (to : ℕ) → slice_get c.servers k ≡ Some s → PlacesHold c
     → (o : Counts) → ServersFit (sight_of o (with_all s c) c.journal) → to < length c.servers
     → PlacesHold (after_step k (Move prefix to) (move_step prefix to s) c)
-move_places k c s prefix to at h o f is = go (move_refusal s.records s.rows s.map s.me prefix to None) refl
-  where
-    go : (e : Option MoveError) → move_refusal s.records s.rows s.map s.me prefix to None ≡ e → PlacesHold (after_step k (Move prefix to) (move_at e prefix to s) c)
-    go None m = leaving_places k c s prefix to at h o f is m
-    go (Some why) m = subst PlacesHold (sym (stays_cluster k c s prefix to why at)) h
+move_places k c s prefix to at h o f = moved_places k c s prefix to at h f.sound.records (fit_lives c s o f)

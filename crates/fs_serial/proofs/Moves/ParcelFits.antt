@@ -47,18 +47,25 @@ use Rattle.fs_server.specs.Moves.{fits_here, was_given}
 use Rattle.fs_server.specs.Server.{is_mine}
 use Rattle.fs_server.specs.declared.state.Server.{Server}
 use Rattle.fs_serial.specs.Cluster.{Cluster, parcels_of}
-use Rattle.fs_serial.specs.Parts.{ServersFit, ServersHold}
+use Rattle.fs_serial.specs.Rows.{NoRowsConflict, PromisesKept, RowsCounted, RowsGiven}
 use Rattle.fs_serial.specs.Places.{PlacesHold, gives_it}
 use Rattle.fs_serial.specs.Refusals.{rows_in}
 use Rattle.fs_serial.specs.Runs.{held_by}
 use Rattle.fs_serial.specs.Seen.{with_all}
-use Rattle.fs_serial.specs.Sight.{Counts, sight_of}
+use Rattle.fs_serial.specs.Sight.{Counts, count_with}
 use Rattle.fs_serial.proofs.Moves.ComingParts.{once}
 use Rattle.fs_serial.proofs.Places.HeldRecords.{HasRecord, IsOneOf, one_alone, put_all, record_of_all}
 use Rattle.fs_serial.proofs.Places.HeldRows.{row_of_all}
 use Rattle.fs_serial.proofs.Grants.Leased.{In-with_row}
 use Rattle.fs_serial.proofs.Places.OnePlaces.{not_both, one_parcel, one_record, record_flies, record_home, row_sent}
 use Rattle.fs_serial.proofs.Lists.Times.{AreOnce, new_once, once_behind, once_new, times, times_parts}
+
+-- what a parcel needs to hold of the rows of all
+pub record RowsStand (count : ℕ → ℕ) (m : RecordMap) (rows : List Row) : Type 0 where
+  pub apart : NoRowsConflict rows
+  pub promises : PromisesKept m rows
+  pub counted : RowsCounted rows
+  pub given : RowsGiven count rows
 
 -- ## Rows off modes
 
@@ -143,16 +150,16 @@ module _ (c : Cluster) (h : PlacesHold c) (s : Server) (i : In s c.servers) (p :
   either_row r (inl k) = row_came r k
   either_row r (inr k) = row_here r k
 
-  module _ (o : Counts) (hold : ServersHold (sight_of o (with_all s c) c.journal)) (fit : ServersFit (sight_of o (with_all s c) c.journal)) where
+  module _ (o : Counts) (stand : RowsStand (count_with s.me s.given o.given) (with_all s c).records (with_all s c).rows) where
     off_fit : off_modes.fits (rows_off_modes s.rows) (rows_off_modes p.rows) ≡ true
     off_fit = quiet_fits (rows_off_modes p.rows) (rows_off_modes s.rows) (once_parts is_off_modes p.rows s.rows (once c h s i p j))
-        (λ a b k l. hold.apart a b (row_came a (In-filter is_off_modes a p.rows k)) (either_row b (elim l as (λ _. In b p.rows ⊎ In b s.rows) [
+        (λ a b k l. stand.apart a b (row_came a (In-filter is_off_modes a p.rows k)) (either_row b (elim l as (λ _. In b p.rows ⊎ In b s.rows) [
           | inl m ↦ inl (In-filter is_off_modes b p.rows m)
           | inr m ↦ inr (In-filter is_off_modes b s.rows m)
         ])))
 
     free : (a b : Row) → In a all → In b all → conflicts (selves_in records) all a b ≡ false
-    free a b k l = or_from (plain_conflict a b) (mode_conflict (selves_in records) all a b) (hold.apart a b k l) (kept_apart (selves_in records) all hold.promises a b k l)
+    free a b k l = or_from (plain_conflict a b) (mode_conflict (selves_in records) all a b) (stand.apart a b k l) (kept_apart (selves_in records) all stand.promises a b k l)
 
     -- ## Handles
 
@@ -212,7 +219,7 @@ module _ (c : Cluster) (h : PlacesHold c) (s : Server) (i : In s c.servers) (p :
     gives_row r k = row_sent c.journal p (h.sent p j) r k
 
     pair_free : (r x : Row) → In r p.rows → In x all → conflicts listed of_modes r x ≡ false
-    pair_free r x k l = or_from (plain_conflict r x) (mode_conflict listed of_modes r x) (hold.apart r x (row_came r k) l) (goes_apart listed of_modes r x
+    pair_free r x k l = or_from (plain_conflict r x) (mode_conflict listed of_modes r x) (stand.apart r x (row_came r k) l) (goes_apart listed of_modes r x
         (λ d id n e t.
         let q = apart_goes (selves_in records) all r x (free r x (row_came r k) l) d id n e t in
         (q.0, its_fixed id n r.session x.session (subst (λ z. gives_it z p ≡ true) (ap file_of e) (gives_row r k)) q.1))
@@ -237,11 +244,11 @@ module _ (c : Cluster) (h : PlacesHold c) (s : Server) (i : In s c.servers) (p :
 
     -- ## Its numbers
 
-    own_count : (server : ℕ) → server ≡ s.me → (sight_of o (with_all s c) c.journal).given server ≡ s.given
+    own_count : (server : ℕ) → server ≡ s.me → count_with s.me s.given o.given server ≡ s.given
     own_count server e = ap (λ b. cond b s.given (o.given server)) (ap (λ n. n == s.me) e ∙ nat_eq_equiv.refl s.me)
 
     row_given : (r : Row) → In r p.rows → was_given s.me s.given r ≡ true
-    row_given r k = given_here s.me s.given r.no.server r.no.count ((sight_of o (with_all s c) c.journal).given r.no.server) (fit.counted r (row_came r k)) (own_count r.no.server) (fit.given r (row_came r k))
+    row_given r k = given_here s.me s.given r.no.server r.no.count (count_with s.me s.given o.given r.no.server) (stand.counted r (row_came r k)) (own_count r.no.server) (stand.given r (row_came r k))
 
     pub flying_fits : fits_here p s ≡ true
     flying_fits = joined (fits s.records s.rows s.map s.me p) (list_all (was_given s.me s.given) p.rows) it_fits (In-all (was_given s.me s.given) p.rows row_given)
