@@ -35,6 +35,7 @@ pub mod StandsAfter
 pub mod PutOff
 pub mod Aborted
 pub mod OtherEvents
+pub mod OtherSteps
 pub mod PlacesAfter
 pub mod YesElsewhere
 pub mod DecisionPlaces

@@ -17,8 +17,10 @@ use Rattle.fs_record.specs.Records.{RecordMap}
 use Rattle.fs_record.specs.declared.parcel.Parcel.{Parcel}
 use Rattle.fs_rows.specs.Granted.{with_rows}
 use Rattle.fs_server.specs.Server.{begun, is_mine}
+use Rattle.fs_server.specs.declared.event.ServerEvent.{ServerEvent}
+use Rattle.fs_server.specs.declared.event.ServerEvent.TheVariants as event
 use Rattle.fs_server.specs.declared.state.Server.{Server}
-use Rattle.fs_serial.specs.Cluster.{Cluster, parcels_of}
+use Rattle.fs_serial.specs.Cluster.{Cluster, IsThere, parcels_of}
 use Rattle.fs_serial.specs.Joined.{rows_of_all, with_all_of, with_parcels, with_rows_in, with_rows_of}
 use Rattle.fs_serial.specs.Places.{IsHome, PlacesHold, gives_it, IsUnderway}
 use Rattle.fs_serial.specs.Seen.{ClusterHolds, given_at, reaps_at, world_of}
@@ -121,54 +123,71 @@ places_set c k s t at p map me home ordered = record {
 abbrev pub begun_at : ℕ → ℕ → Server → Cluster → Cluster
 begun_at now k s c = record c { servers = slice_set c.servers k (begun now s) }
 
-module _ (skew greatest now k : ℕ) (s : Server) (c : Cluster) (at : slice_get c.servers k ≡ Some s) (before : max s.last now ≤ greatest) (h : ClusterHolds skew greatest c) where
-  -- rows of other servers, and the rows here that are not over
-  abbrev keep : Row → Bool
-  keep r = not (is_mine s (file_of r.field)) || is_live (max s.last now) s.skew r
+-- so does the message that the event is about
+pub there_begun : (now k : ℕ) (s : Server) (e : ServerEvent) (c : Cluster) → IsThere k e c → IsThere k e (begun_at now k s c)
+there_begun now k s (event.FromClient by m) c there = there
+there_begun now k s (event.FromPeer from m) c there = there
+there_begun now k s event.Turn c there = tt
+there_begun now k s (event.Recall field) c there = tt
+there_begun now k s (event.Move prefix to) c there = subst (λ n. to < n) (sym (length-set c.servers k (begun now s))) there
 
-  abbrev then : Cluster
-  then = begun_at now k s c
+module _ (greatest now k : ℕ) (s : Server) (c : Cluster) (at : slice_get c.servers k ≡ Some s) (before : max s.last now ≤ greatest) (places : PlacesHold c) where
+  -- rows of other servers, and the rows here that are not over
+  abbrev pub keep : Row → Bool
+  keep r = not (is_mine s (file_of r.field)) || is_live (max s.last now) s.skew r
 
   kept_of_others : (r : Row) → is_mine s (file_of r.field) ≡ false → keep r ≡ true
   kept_of_others r e = ap (λ b. not b || is_live (max s.last now) s.skew r) e
 
   kept_here : (r : Row) → In r s.rows → keep r ≡ is_live (max s.last now) s.skew r
-  kept_here r i = ap (λ b. not b || is_live (max s.last now) s.skew r) ((h.places.homes s (In-got c.servers k s at)).rows r i)
+  kept_here r i = ap (λ b. not b || is_live (max s.last now) s.skew r) ((places.homes s (In-got c.servers k s at)).rows r i)
 
-  over : (r : Row) → keep r ≡ false → r.until + s.skew ≤ greatest
+  pub over : (r : Row) → keep r ≡ false → r.until + s.skew ≤ greatest
   over r e =
       let live = (or_parts (not (is_mine s (file_of r.field))) (is_live (max s.last now) s.skew r) e).1 in
       let late : r.until + s.skew ≤ max s.last now = ltb-false (max s.last now) (r.until + s.skew) (or_parts (is_some r.lock) (nat_lt (max s.last now) (r.until + s.skew)) live).1 in
       omega arith
 
-  rows_are : rows_of_all then.servers (parcels_of c.in_flight) ≡ filter keep (rows_of_all c.servers (parcels_of c.in_flight))
+  -- a row that a transaction keeps is not over
+  pub kept_locked : (r : Row) → is_some r.lock ≡ true → keep r ≡ true
+  kept_locked r lock = ap (λ b. not (is_mine s (file_of r.field)) || (b || nat_lt (max s.last now) (r.until + s.skew))) lock
+      ∙ or_true (not (is_mine s (file_of r.field)))
+    where
+      or_true : (b : Bool) → (b || true) ≡ true
+      or_true true = refl
+      or_true false = refl
+
+  pub rows_are : rows_of_all (begun_at now k s c).servers (parcels_of c.in_flight) ≡ filter keep (rows_of_all c.servers (parcels_of c.in_flight))
   rows_are =
-      let places = h.places in
       let passed = all_passed keep c.servers k s (begun now s) at (sym (filter_as keep (is_live (max s.last now) s.skew) s.rows kept_here))
       (λ j u e n r i. kept_of_others r (others_rows c k s at places j u e n r i)) in
       sym (passed_parcels keep (parcels_of c.in_flight) (with_rows_of c.servers []) (λ p i r j. kept_of_others r (parcels_rows c k s at places p i r j)) places.ordered
-      ∙ ap (with_rows_in (parcels_of c.in_flight)) (passed_servers keep c.servers then.servers [] passed (before_parcels (parcels_of c.in_flight) (with_rows_of c.servers []) places.ordered)))
+      ∙ ap (with_rows_in (parcels_of c.in_flight)) (passed_servers keep c.servers (begun_at now k s c).servers [] passed (before_parcels (parcels_of c.in_flight) (with_rows_of c.servers []) places.ordered)))
 
-  places_then : PlacesHold then
+  pub places_then : PlacesHold (begun_at now k s c)
   places_then =
-      let home = h.places.homes s (In-got c.servers k s at) in
-      places_set c k s (begun now s) at h.places refl refl (record {
+      let home = places.homes s (In-got c.servers k s at) in
+      places_set c k s (begun now s) at places refl refl (record {
         map = home.map;
         listed = home.listed;
         rows = λ r i. home.rows r (In-filter (is_live (max s.last now) s.skew) r s.rows i);
         records = home.records;
         ordered = ordered_filter (is_live (max s.last now) s.skew) s.rows home.ordered;
-      }) (subst (λ rs. is_ordered rs ≡ true) (sym rows_are) (ordered_filter keep (rows_of_all c.servers (parcels_of c.in_flight)) h.places.ordered))
+      }) (subst (λ rs. is_ordered rs ≡ true) (sym rows_are) (ordered_filter keep (rows_of_all c.servers (parcels_of c.in_flight)) places.ordered))
+
+module _ (skew greatest now k : ℕ) (s : Server) (c : Cluster) (at : slice_get c.servers k ≡ Some s) (before : max s.last now ≤ greatest) (h : ClusterHolds skew greatest c) where
+  abbrev then : Cluster
+  then = begun_at now k s c
 
   view_then : WorldHolds greatest (world_of (begun now s) then)
   view_then =
       let w = world_of s c in
-      let lapsed : World = record w { server = record w.server { rows = filter keep w.server.rows } } in
-      let rest = lapse_some_keeps greatest w keep (λ r i e. over r e) (h.parts s (In-got c.servers k s at)) in
+      let lapsed : World = record w { server = record w.server { rows = filter (keep greatest now k s c at before h.places) w.server.rows } } in
+      let rest = lapse_some_keeps greatest w (keep greatest now k s c at before h.places) (λ r i e. over greatest now k s c at before h.places r e) (h.parts s (In-got c.servers k s at)) in
       let risen : World = record lapsed { server = record lapsed.server { last = max s.last now } } in
       let me = h.places.numbered k s at in
       alike_holds greatest risen (world_of (begun now s) then) (record {
-        rows = rows_are;
+        rows = rows_are greatest now k s c at before h.places;
         records = ap (with_parcels (parcels_of c.in_flight)) (same_records c.servers k s (begun now s) empty at refl);
         skew = refl;
         given = λ j. count_set given_at c.servers k s.me s.given (begun now s) me j;
@@ -193,9 +212,9 @@ module _ (skew greatest now k : ℕ) (s : Server) (c : Cluster) (at : slice_get 
   -- all that holds holds when the event begins
   pub begins : ClusterHolds skew greatest then
   begins = record {
-    parts = all_views skew greatest k then (begun now s) (get_here c.servers k s (begun now s) at) places_then skewed_then clocks_then view_then;
+    parts = all_views skew greatest k then (begun now s) (get_here c.servers k s (begun now s) at) (places_then greatest now k s c at before h.places) skewed_then clocks_then view_then;
     skewed = skewed_then;
     addressed = h.addressed;
-    places = places_then;
+    places = places_then greatest now k s c at before h.places;
     handovers = h.handovers;
   }

@@ -9,7 +9,8 @@ use Rattle.fs_ident.proofs.Passing.{found}
 use Rattle.fs_ident.proofs.Standing.{In-front, In-got, In-mapped}
 use Rattle.fs_field.specs.Conflict.{Selves}
 use Rattle.fs_field.specs.declared.effect.Effect.{Effect}
-use Rattle.fs_field.specs.declared.effect.Effect.TheVariants.{SetChild, SetParent, NewNode, RemoveNode, AddHandle, RemoveHandle, SetInfo}
+use Rattle.fs_field.specs.declared.effect.Effect.TheVariants.{SetChild, SetParent, NewNode, RemoveNode}
+use Rattle.fs_field.specs.declared.effect.Effect.TheVariants.{AddHandle, RemoveHandle, SetInfo}
 use Rattle.fs_field.specs.declared.field.Field.{Field}
 use Rattle.fs_field.specs.declared.row.Row.{Row}
 use Rattle.fs_moderows.specs.Kept.{KeptPromises}
@@ -32,7 +33,8 @@ use Rattle.fs_server.specs.declared.event.ServerEvent.TheVariants as event
 use Rattle.fs_server.specs.declared.state.Server.{Server}
 use Rattle.fs_txn.specs.Decided.{held_with}
 use Rattle.fs_txn.specs.Grants.{Decided, effects_in}
-use Rattle.fs_serial.specs.Cluster.{Cluster, InFlight, IsThere, after_step, is_between, is_with, parcel_in, parcels_of, replies_after, without_question}
+use Rattle.fs_serial.specs.Cluster.{Cluster, InFlight, IsThere, after_step, is_between, is_with, parcel_in, parcels_of}
+use Rattle.fs_serial.specs.Cluster.{replies_after, without_question}
 use Rattle.fs_serial.specs.Decided.{WorldStands}
 use Rattle.fs_serial.specs.Exchange.{asked_server}
 use Rattle.fs_serial.specs.Fresh.{IsMade}
@@ -83,7 +85,8 @@ record IsQuietStep (s : Server) (x : Stepped) : Type 0 where
   sent : (ends : Session → Ends) (y : Session) → world.with_sent x.out.send ends y ≡ ends y
 
 move_quiet : (o : Option MoveError) (prefix : List ℕ) (to : ℕ) (s : Server) → IsQuietStep s (move_at o prefix to s)
-move_quiet None prefix to s = record { me = refl; skew = refl; last = refl; given = refl; reaps = refl; admitted = refl; sent = λ ends y. refl }
+move_quiet None prefix to s =
+    record { me = refl; skew = refl; last = refl; given = refl; reaps = refl; admitted = refl; sent = λ ends y. refl }
 move_quiet (Some why) prefix to s =
     record { me = refl; skew = refl; last = refl; given = refl; reaps = refl; admitted = refl; sent = λ ends y. refl }
 
@@ -170,7 +173,8 @@ module _ (skew greatest k : ℕ) (c : Cluster) (s : Server) (at : slice_get c.se
   -- ## Where all rows and records stay
 
   module _ (e : ServerEvent) (there : IsThere k e c) (x : Stepped) (q : IsQuietStep s x) (leaves : LeavesLed k e s x c)
-      (none : replies_after e x.out.admitted c.replied ≡ c.replied) (untaken : (y : Session) → world.without_taken e (ends_in c) y ≡ ends_in c y)
+      (none : replies_after e x.out.admitted c.replied ≡ c.replied)
+      (untaken : (y : Session) → world.without_taken e (ends_in c) y ≡ ends_in c y)
       (rows : rows_in (after_step k e x c) ≡ rows_in c) (records : held_by (after_step k e x c) ≡ held_by c)
       (places : PlacesHold (after_step k e x c))
       (due : AreDue k x.out.send (λ z. asked_server (without_question k e c.lines z).client.exchange)) where
@@ -258,7 +262,8 @@ module _ (skew greatest k : ℕ) (c : Cluster) (s : Server) (at : slice_get c.se
       (found (is_between from k) c.in_flight (record { from = from; to = k; message = peer.Parcel p }) there).0 refl)).unlocked
 
   pub parcel_event : (from : ℕ) (p : Parcel) → IsThere k (event.FromPeer from (peer.Parcel p)) c
-      → ClusterStands skew greatest (after_step k (event.FromPeer from (peer.Parcel p)) (event_step (event.FromPeer from (peer.Parcel p)) s) c)
+      → ClusterStands skew greatest
+      (after_step k (event.FromPeer from (peer.Parcel p)) (event_step (event.FromPeer from (peer.Parcel p)) s) c)
   parcel_event from p there =
       let e : ServerEvent = event.FromPeer from (peer.Parcel p) in
       let x : Stepped = only_noted (note.Installs p.prefix) (installed p s) in

@@ -114,37 +114,37 @@ meanwhile_taken k e c there one x = refl
 
 -- ## The step
 
-module _ (k : ℕ) (e : ServerEvent) (s : Server) (x : Stepped) (c : Cluster) (at : slice_get c.servers k ≡ Some s)
-    (q : LeavesLed k e s x c) where
-  abbrev servers : List Server
-  servers = slice_set c.servers k x.server
-
-  taken_same : (y : Session) (led : Option Led) → taken_leads y led servers ≡ taken_leads y led c.servers
-  taken_same y led = each_same (taken_at y led) c.servers k s x.server at
+module _ (ss : List Server) (k : ℕ) (s t : Server) (at : slice_get ss k ≡ Some s) (leading : t.leading ≡ s.leading)
+    (ending : t.ending ≡ s.ending) where
+  taken_same : (y : Session) (led : Option Led) → taken_leads y led (slice_set ss k t) ≡ taken_leads y led ss
+  taken_same y led = each_same (taken_at y led) ss k s t at
       (ap (λ (ls : List Leading). flat_map (λ (l : Leading). question_of led)
-      (filter (λ (l : Leading). l.leader.session.0 == y.0) ls)) q.leading)
+      (filter (λ (l : Leading). l.leader.session.0 == y.0) ls)) leading)
 
-  owed_same : (y : Session) → owed_to y servers ≡ owed_to y c.servers
-  owed_same y = each_same (owed_at y) c.servers k s x.server at
-      (ap (λ (es : List Ending). map (λ (z : Ending). answer.Led z.end) (filter (λ (z : Ending). z.session.0 == y.0) es)) q.ending)
+  owed_same : (y : Session) → owed_to y (slice_set ss k t) ≡ owed_to y ss
+  owed_same y = each_same (owed_at y) ss k s t at
+      (ap (λ (es : List Ending). map (λ (z : Ending). answer.Led z.end) (filter (λ (z : Ending). z.session.0 == y.0) es)) ending)
 
-  ends_same : (y : Session) (l : Lines) → ends_with y servers l ≡ ends_with y c.servers l
+  -- what is asked and owed stays where the server's tables do
+  pub ends_same : (y : Session) (l : Lines) → ends_with y (slice_set ss k t) l ≡ ends_with y ss l
   ends_same y l =
       ap₂ (λ (ts : List ClientMsg) (os : List Answer). let z : Ends =
       record { client = l.client; up = messages l.up ++ ts; down = os ++ messages l.down } in z)
       (taken_same y l.client.led) (owed_same y)
 
+module _ (k : ℕ) (e : ServerEvent) (s : Server) (x : Stepped) (c : Cluster) (at : slice_get c.servers k ≡ Some s)
+    (q : LeavesLed k e s x c) where
   pub ends_after : IsThere k e c
       → ((y : Session) → OneExchange (c.lines y).client (c.lines y).client.exchange (ends_in c y).up (ends_in c y).down)
       → (y : Session) → ends_in (after_step k e x c) y ≡ world.with_sent x.out.send (world.without_taken e (ends_in c)) y
   ends_after there one y =
-      ends_same y ((after_step k e x c).lines y)
+      ends_same c.servers k s x.server at q.leading q.ending y ((after_step k e x c).lines y)
       ∙ meanwhile_sent k x.out.send c.servers (without_question k e c.lines) y
       ∙ ap (λ (ends : Session → Ends). world.with_sent x.out.send ends y) (fun_ext (meanwhile_taken k e c there one))
 
   pub decided_after : decided_in (after_step k e x c) ≡ decided_in c
   decided_after =
-      decided_same c.servers servers c.in_flight (without_arrived k e c.in_flight ++ in_flight_from k x.out.send)
+      decided_same c.servers (slice_set c.servers k x.server) c.in_flight (without_arrived k e c.in_flight ++ in_flight_from k x.out.send)
       (ended_set c.servers k s x.server at q.ending)
       (telling_append (without_arrived k e c.in_flight) (in_flight_from k x.out.send) ∙ ap₂ (λ ms ns. ms ++ ns) q.taken q.words
           ∙ append-nil (telling_of c.in_flight))

@@ -1,6 +1,6 @@
 -- Every event of a server keeps all that holds of the cluster.
 use mathlib.Core.Path.{fun_ext}
-use Rattle.std.proofs.Common.{◌≡◌, ℕ, ◌<◌, ◌≤◌, ◌==◌, max, true, false, List, [], ◌++◌, length-set, append-nil, cond, refl, sym, ap, ◌∙◌, subst, inl, inr, arith}
+use Rattle.std.proofs.Common.{◌≡◌, ℕ, ◌≤◌, ◌==◌, max, true, false, List, [], ◌++◌, append-nil, cond, refl, sym, ap, ◌∙◌, subst, inl, inr, arith}
 use Rattle.std.specs.Prelude.{Option, Some, None, slice_get, slice_set, is_some}
 use Rattle.fs_ident.specs.In.{In}
 use Rattle.fs_ident.specs.declared.actor.Session.{Session}
@@ -41,6 +41,7 @@ use Rattle.fs_serial.proofs.WholeRuns.Addressing.{AreDue, sent_addressed, taken_
 use Rattle.fs_serial.proofs.Moves.Arriving.{arriving_places, arriving_same, parcel_fits}
 use Rattle.fs_serial.proofs.ClientMessages.Due.{HasAsked, event_due}
 use Rattle.fs_serial.proofs.Returns.Lapsing.{begins, begun_at}
+pub use Rattle.fs_serial.proofs.Returns.Lapsing.{there_begun}
 use Rattle.fs_serial.proofs.LedOperations.LeadEvents.{aborted_holds, led_holds, led_there, put_off_holds, replies_still}
 use Rattle.fs_serial.proofs.LedOperations.LeadSame.{abort_same, commit_same, refuse_same}
 use Rattle.fs_serial.proofs.Moves.Leaving.{move_places, move_same, last_or_before}
@@ -240,13 +241,6 @@ module _ (skew greatest k : ℕ) (c : Cluster) (s : Server) (at : slice_get c.se
       (moved_over prefix to (move_refusal s.records s.rows s.map s.me prefix to None))
 
 -- ## Every event
-
-pub there_begun : (now k : ℕ) (s : Server) (e : ServerEvent) (c : Cluster) → IsThere k e c → IsThere k e (begun_at now k s c)
-there_begun now k s (event.FromClient by m) c there = there
-there_begun now k s (event.FromPeer from m) c there = there
-there_begun now k s event.Turn c there = tt
-there_begun now k s (event.Recall field) c there = tt
-there_begun now k s (event.Move prefix to) c there = subst (λ n. to < n) (sym (length-set c.servers k (begun now s))) there
 
 pub server_keeps : (skew greatest now k : ℕ) (e : ServerEvent) (s : Server) (c : Cluster) → slice_get c.servers k ≡ Some s → max s.last now ≤ greatest → IsThere k e c → ClusterHolds skew greatest c → ClusterHolds skew greatest (after_server now k e c)
 server_keeps skew greatest now k e s c at before there h =
