@@ -310,7 +310,8 @@ module _ (k skew greatest : ℕ) (c : Cluster) (s : Server) (at : slice_get c.se
       (subst (In (word_to key to (Decide effects))) telling_then i)) as (λ _. IsToldOf after.servers key (h.led.parts key) e) [
     | inl old ↦ told_then c.servers k s y at key (h.led.parts key) e
         (λ q. rows_stay key.txn
-            (decides.not_its k skew greatest c s at h l there d (word_to key to (Decide effects)) old effects refl)) (h.led.told key to effects old e j)
+            (decides.not_its k skew greatest c s at h l there d (word_to key to (Decide effects)) old effects refl))
+        (h.led.told key to effects old e j)
     | inr new ↦
         let q = In-map (decision_word k t d) (word_to key to (Decide effects)) out new in
         let word : Decide effects ≡ Decide (told_effects d (q.0).0) = ap (λ (z : Told). z.word) q.1.1 in
