@@ -11,9 +11,15 @@ pub mod DecidedKept
 pub mod Deciding
 pub mod ToldParts
 pub mod FileApart
+pub mod ToldCovered
 pub mod OwnApart
 pub mod GuardsAgain
 pub mod DecisionSeen
 pub mod CommitSeen
+pub mod DecidedOwed
+pub mod LedPuts
+pub mod CommitStands
 pub mod RelockedWorld
 pub mod DecideSeen
+pub mod ConcludedTold
+pub mod CommitKeeps

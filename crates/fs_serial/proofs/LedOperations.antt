@@ -1,5 +1,6 @@
 -- An operation that a server leads commits.
 pub mod MovedItems
+pub mod RemovedItems
 pub mod MoveScripts
 pub mod LeadSession
 pub mod LedKept

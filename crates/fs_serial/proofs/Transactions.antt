@@ -8,6 +8,10 @@ pub mod YesParts
 pub mod RoundsLocks
 pub mod RoundsStages
 pub mod PartsApart
+pub mod Undecided
+pub mod YesesStand
+pub mod FullCommits
+pub mod HomeVotes
 pub mod LedCounted
 pub mod Decisions
 pub mod LedBegun

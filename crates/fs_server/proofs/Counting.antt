@@ -1,6 +1,7 @@
 -- Votes on parts of transactions that the server leads, and what is done of them.
 use Rattle.std.proofs.Common.{◌≡◌, ◌==◌, ◌+◌, ◌<◌, ◌^◌, ℕ, Bool, true, false, List, [], ◌∷◌, ◌++◌, length, refl, ap, ap₂, sym, ◌∙◌, subst, cond}
-use Rattle.std.specs.Prelude.{Option, Some, None, slice_set}
+use Rattle.std.specs.Prelude.{Option, Some, None, slice_get, slice_set}
+use Rattle.std.proofs.lemmas.Bool.{eqb-true}
 use Rattle.std.proofs.lemmas.List.{length-set}
 use Rattle.fs_ident.specs.declared.actor.Peer.{Peer}
 use Rattle.fs_ident.specs.declared.actor.TxnNo.{TxnNo}
@@ -24,7 +25,7 @@ use Rattle.fs_txn.specs.declared.leading.Ending.{Ending}
 use Rattle.fs_txn.specs.declared.leading.Leading.{Leading}
 use Rattle.fs_txn.proofs.Locking.{none_locked}
 use Rattle.fs_server.specs.Concludes.{goes_on, waits}
-use Rattle.fs_server.specs.Counts.{after_own_vote, ask_for, asked_at, counts, counts_own, done_with, seeks, with_vote}
+use Rattle.fs_server.specs.Counts.{after_own_vote, ask_for, asked_at, comes_home, counts, counts_own, done_with, seeks, sent_on, with_vote}
 use Rattle.fs_server.specs.Decided.{CanDecide, stepped_by}
 use Rattle.fs_server.specs.Follows.{to_server}
 use Rattle.fs_server.specs.Gathered.{CanGoOn, IsWhole, keeping, uses_voted, waits_by}
@@ -146,3 +147,14 @@ done_can txn number s d r ch = record {
 
 pub whole_found : (txn : TxnNo) (l : Leading) (s : Server) → IsReady s → leading_of txn s.leading ≡ Some l → IsWhole l
 whole_found txn l s r h = r.server.whole l (found (λ (x : Leading). same_txn x.leader.txn txn) s.leading l h).0
+
+-- ## A part that is elsewhere
+
+pub not_equal : (a b : ℕ) → (a ≡ b → ⊥) → (a == b) ≡ false
+not_equal a b other = elim (a == b) as (λ x. (a == b) ≡ x → x ≡ false) [ true ↦ λ e. absurd (other (eqb-true a b e)) | false ↦ λ e. refl ] refl
+
+-- where the part is found, it is asked for at that server, or this one looks for it itself
+pub sent_so : (number to : ℕ) (p : Part) (l : Leading) (s : Server) (here : Bool) → slice_get l.leader.parts number ≡ Some p → (to == s.me) ≡ here
+    → sent_on number to (slice_get l.leader.parts number) l s ≡ cond here (comes_home number p l s) (seeks number to p l s)
+sent_so number to p l s here there is =
+    ap (λ o. sent_on number to o l s) there ∙ ap (λ b. cond b (comes_home number p l s) (seeks number to p l s)) is

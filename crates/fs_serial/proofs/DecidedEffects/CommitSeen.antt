@@ -1,15 +1,14 @@
 -- A leader commits: what all hold together is changed by the operation.
 use mathlib.Core.Path.{fun_ext}
-use Rattle.std.proofs.Common.{◌≡◌, ℕ, zero, suc, Bool, true, false, List, [], ◌∷◌, ◌++◌, map, cond, refl, sym, ap, ap₂, ◌∙◌, subst}
+use Rattle.std.proofs.Common.{◌≡◌, ℕ, zero, suc, Bool, true, false, List, [], ◌∷◌, ◌++◌, map, cond, refl, sym, ap, ap₂, ◌∙◌}
 use Rattle.std.specs.Prelude.{Option, Some, None, slice_get, unwrap_or}
-use Rattle.std.specs.FinMap.{entries}
 use Rattle.std.specs.List.{flat_map, list_any}
 use Rattle.fs_ident.specs.Ident.{same}
 use Rattle.fs_ident.specs.In.{In}
 use Rattle.fs_ident.specs.declared.actor.Session.{Session}
 use Rattle.fs_ident.specs.declared.actor.TxnNo.{TxnNo}
 use Rattle.fs_ident.proofs.Same.{same_is}
-use Rattle.fs_ident.proofs.Standing.{In-front, In-got}
+use Rattle.fs_ident.proofs.Standing.{In-got}
 use Rattle.fs_field.specs.After.{changed_file}
 use Rattle.fs_field.specs.declared.effect.Effect.{Effect}
 use Rattle.fs_field.specs.declared.row.Row.{Row}
@@ -18,15 +17,14 @@ use Rattle.fs_model.specs.Asking.{home_of}
 use Rattle.fs_parcel.proofs.Both.{passing}
 use Rattle.fs_record.specs.Applied.{records_after_all}
 use Rattle.fs_record.specs.LedEffects.{led_effects}
-use Rattle.fs_record.specs.Moving.{with_records}
 use Rattle.fs_record.specs.Records.{RecordMap}
-use Rattle.fs_record.specs.declared.record.Record.{Record}
 use Rattle.fs_server.specs.Concludes.{concludes}
 use Rattle.fs_server.specs.LeadingLaws.{CommitSplits, goes_from, has_effect}
 use Rattle.fs_server.specs.Server.{Stepped, is_mine}
 use Rattle.fs_server.specs.declared.state.Server.{Server}
 use Rattle.fs_txn.specs.Decided.{going, held_with, staying}
-use Rattle.fs_txn.specs.Deciding.{agreed, by_path, commit, decision, effects_on, first_end, needs_path, reply_of, told_effects, unless_ended}
+use Rattle.fs_txn.specs.Deciding.{agreed, by_path, commit, decision, effects_on, first_end}
+use Rattle.fs_txn.specs.Deciding.{needs_path, reply_of, told_effects, unless_ended}
 use Rattle.fs_txn.specs.Grants.{effects_in}
 use Rattle.fs_txn.specs.Leading.{IsWholeLeader, elsewhere, own_effects, own_parts}
 use Rattle.fs_txn.specs.Parts.{parts_of, source_of}
@@ -43,9 +41,8 @@ use Rattle.fs_serial.specs.Meanwhile.{ClusterStands, held_meanwhile}
 use Rattle.fs_serial.specs.Refusals.{rows_in}
 use Rattle.fs_serial.specs.Words.{decided_in}
 use Rattle.fs_serial.proofs.DecidedEffects.DecisionSeen as decides
-use Rattle.fs_serial.proofs.Places.ClusterPlaces.{IsBetween, all_here, apart_of, between, records_joined, records_of_servers, rest_of}
-use Rattle.fs_serial.proofs.Places.OtherPlaces.{IsApart, Rest, effects_apart, effects_joined}
-use Rattle.fs_serial.proofs.Places.PutRecords.{AreOn, AreOther, entry_has}
+use Rattle.fs_serial.proofs.Places.AppliedRecords.{records_applied}
+use Rattle.fs_serial.proofs.Places.PutRecords.{AreOn}
 use Rattle.fs_serial.proofs.Transactions.Tables.{In_some}
 
 -- ## Lists
@@ -131,8 +128,10 @@ module _ (k skew greatest : ℕ) (c : Cluster) (s : Server) (at : slice_get c.se
   }
 
   -- the law of a commit that is split by the servers of its parts
-  module _ (splits : CommitSplits) (away : same l.leader.file (home_of l.leader.op) ≡ false) (parted : same l.leader.file (source_of l.leader.op) ≡ false) where
-    abbrev split : ((m : RecordMap) → records_after_all m (own_effects s.me l committing) ≡ records_after_all m (staying goes all_effects))
+  module _ (splits : CommitSplits) (away : same l.leader.file (home_of l.leader.op) ≡ false)
+      (parted : same l.leader.file (source_of l.leader.op) ≡ false) where
+    abbrev split :
+        ((m : RecordMap) → records_after_all m (own_effects s.me l committing) ≡ records_after_all m (staying goes all_effects))
         × (flat_map (λ (n : ℕ × ℕ). told_effects committing n.0) out ≡ going goes all_effects)
     split = splits s.me l leads.led.entry.uses (reply_of l.leader.op) _ whole away parted decision_is
 
@@ -143,7 +142,8 @@ module _ (k skew greatest : ℕ) (c : Cluster) (s : Server) (at : slice_get c.se
         ∙ ap (λ es. decided_in c ++ decided_for by es) split.1
 
     -- each part of its own is managed here
-    module _ (own : (n : ℕ × ℕ) (p : Part) → In n (own_parts s.me l) → slice_get l.leader.parts n.0 ≡ Some p → is_mine s p.file ≡ true) where
+    module _ (own : (n : ℕ × ℕ) (p : Part) → In n (own_parts s.me l) → slice_get l.leader.parts n.0 ≡ Some p
+        → is_mine s p.file ≡ true) where
       pub own_on : AreOn (is_mine s) (own_effects s.me l committing)
       own_on e i =
           let q = In_some (λ (n : ℕ × ℕ). told_effects committing n.0) e (own_parts s.me l) i in
@@ -151,33 +151,11 @@ module _ (k skew greatest : ℕ) (c : Cluster) (s : Server) (at : slice_get c.se
           ap (is_mine s) (same_is (changed_file e) (r.0).file (passing (λ x. same (changed_file x) (r.0).file) all_effects e r.1.1))
           ∙ own q.0 r.0 q.1.0 r.1.0
 
-      b : IsBetween c.servers k s
-      b = between c.servers k s at
-
-      abbrev rest : Rest
-      rest = rest_of b.front b.back (parcels_of c.in_flight)
-
-      apart : IsApart rest s
-      apart = apart_of c k s h.places b
-
-      then_on : AreOn (is_mine s) (own_effects s.me l d)
-      then_on = subst (λ e. AreOn (is_mine s) (own_effects s.me l e)) (sym decision_is) own_on
-
-      other_files : (e : List ℕ × Record) → In e (records_of_servers b.front) → AreOther e.0 (entries y.records)
-      other_files e i z j q =
-          let here : is_mine s z.0 ≡ true = effects_apart rest s apart (own_effects s.me l d) then_on z.0 (entry_has y.records z j) in
-          let off : is_mine s e.0 ≡ false = apart.records e (In-front e (records_of_servers b.front) _ i) in
-          let wrong : true ≡ false = sym here ∙ ap (is_mine s) q ∙ off in
-          absurd (cc)
-
       pub records_are : records_of_all after.servers (parcels_of after.in_flight) ≡ records_after_all all_records (staying goes all_effects)
       records_are =
           ap (records_of_all after.servers) parcels_then
-          ∙ ap (λ ss. records_of_all ss (parcels_of c.in_flight)) (b.set y)
-          ∙ records_joined b.front b.back (parcels_of c.in_flight) y other_files
-          ∙ ap (λ (e : Decision). with_records rest.records (records_after_all s.records (own_effects s.me l e))) decision_is
-          ∙ sym (effects_joined rest s apart (own_effects s.me l committing) own_on)
-          ∙ ap (λ (u : Server). records_after_all u.records (own_effects s.me l committing)) (sym (all_here c k s h.places b))
+          ∙ records_applied k c s y at h.places (own_effects s.me l committing) own_on
+              (ap (λ (e : Decision). records_after_all s.records (own_effects s.me l e)) decision_is)
           ∙ split.0 all_records
 
       pub held_is : held_meanwhile after

@@ -1,15 +1,11 @@
 -- A part applies what it is told: what all hold together stays as it was, and all that holds of it.
-use Rattle.std.proofs.Common.{◌≡◌, ◌==◌, ℕ, List, [], ◌∷◌, ◌++◌, append-nil, map, filter, refl, sym, ap, ap₂, ◌∙◌, subst, inl, inr}
-use Rattle.std.specs.Prelude.{Some, slice_get, slice_set}
-use Rattle.std.specs.List.{flat_map}
+use Rattle.std.proofs.Common.{◌≡◌, ℕ, List, [], ◌∷◌, ◌++◌, append-nil, map, refl, sym, ap, ap₂, ◌∙◌, subst, inl, inr}
+use Rattle.std.specs.Prelude.{Some, slice_get}
 use Rattle.std.proofs.lemmas.Grind.{flat_map-append}
 use Rattle.fs_ident.specs.In.{In}
 use Rattle.fs_ident.specs.declared.actor.Session.{Session}
 use Rattle.fs_ident.proofs.Standing.{In-append, In-behind, In-front, In-got}
 use Rattle.fs_field.specs.declared.row.Row.{Row}
-use Rattle.fs_msg.specs.declared.answer.Answer.{Answer}
-use Rattle.fs_msg.specs.declared.answer.Answer.TheVariants as answer
-use Rattle.fs_msg.specs.declared.client_msg.ClientMsg.{ClientMsg}
 use Rattle.fs_msg.specs.declared.decide.Decide.{Decide as ToDecide}
 use Rattle.fs_msg.specs.declared.peer_msg.PeerMsg.TheVariants as peer
 use Rattle.fs_record.specs.Applied.{records_after_all}
@@ -23,10 +19,8 @@ use Rattle.fs_txn.specs.Grants.{Decided, IsBare, effects_in}
 use Rattle.fs_txn.specs.Ready.{is_awaited, without_prepared}
 use Rattle.fs_txn.specs.Stages.{Key, word_to}
 use Rattle.fs_txn.specs.Stages.Word.{Decide}
-use Rattle.fs_txn.specs.declared.leading.Ending.{Ending}
-use Rattle.fs_txn.specs.declared.leading.Leading.{Leading}
 use Rattle.fs_txn.proofs.Waiting.{in_their_order}
-use Rattle.fs_serial.specs.Cluster.{Cluster, InFlight, IsThere, Lines, after_step, in_flight_from, is_between, parcels_of}
+use Rattle.fs_serial.specs.Cluster.{Cluster, InFlight, IsThere, after_step, in_flight_from, is_between, parcels_of}
 use Rattle.fs_serial.specs.Cluster.{without_arrived}
 use Rattle.fs_serial.specs.Decided.{DecidedFits, IsOfFile, IsOwnApart, WorldStands, after_decide}
 use Rattle.fs_serial.specs.Exchange.{due}
@@ -34,7 +28,7 @@ use Rattle.fs_serial.specs.Joined.{records_of_all, rows_of_all}
 use Rattle.fs_serial.specs.Leading.{LedHolds}
 use Rattle.fs_serial.specs.Locks.{at_home}
 use Rattle.fs_serial.specs.Meanwhile.{ClusterStands, held_meanwhile, world_meanwhile}
-use Rattle.fs_serial.specs.Owed.{ends_in, ends_with, owed_at, question_of, taken_at}
+use Rattle.fs_serial.specs.Owed.{ends_in}
 use Rattle.fs_serial.specs.Refusals.{rows_in}
 use Rattle.fs_serial.specs.Seen.{given_at, reaps_at}
 use Rattle.fs_serial.specs.Words.{decided_among, decided_at, decided_by, decided_in, ended_in, key_of, led_in, telling_of}
@@ -45,8 +39,7 @@ use Rattle.fs_serial.proofs.DecidedEffects.OwnApart.{own_apart}
 use Rattle.fs_serial.proofs.DecidedEffects.RelockedWorld.{relocked_holds, with_locks}
 use Rattle.fs_serial.proofs.DecidedEffects.ToldParts.{IsPutIn}
 use Rattle.fs_serial.proofs.LedOperations.LedSteps.{effects_of_sent}
-use Rattle.fs_serial.proofs.Lists.EachAt.{each_same}
-use Rattle.fs_serial.proofs.Lists.Traffic.{IsTaken, messages, taken_first}
+use Rattle.fs_serial.proofs.Lists.Traffic.{IsTaken, taken_first}
 use Rattle.fs_serial.proofs.Moves.Parcels.{parcels-append}
 use Rattle.fs_serial.proofs.Places.AppliedRecords.{records_applied}
 use Rattle.fs_serial.proofs.Places.RelockedRows.{home_relock, rows_relocked}
@@ -54,6 +47,7 @@ use Rattle.fs_serial.proofs.Transactions.AwaitedWords.{IsAwaitedBy, awaited_by, 
 use Rattle.fs_serial.proofs.Transactions.DecidedStill.{decided_same, ended_set}
 use Rattle.fs_serial.proofs.Transactions.DecisionPlaces.{told_here, told_word}
 use Rattle.fs_serial.proofs.Transactions.PlacesAfter.{AreRelocked, unlocked_unless, word_taken}
+use Rattle.fs_serial.proofs.Transactions.SeenMeanwhile.{ends_same}
 use Rattle.fs_serial.proofs.WholeRuns.Views.{AreAlike, alike_holds, count_set}
 
 -- ## What is decided, again
@@ -80,20 +74,6 @@ fits_again c t led records stays = record {
   };
   owed = λ d i. (stays d i).owed;
 }
-
--- ## Sessions
-
--- what is asked and owed stays where a server's tables do
-pub ends_stay : (ss : List Server) (k : ℕ) (s t : Server) → slice_get ss k ≡ Some s → t.leading ≡ s.leading → t.ending ≡ s.ending
-    → (x : Session) (l : Lines) → ends_with x (slice_set ss k t) l ≡ ends_with x ss l
-ends_stay ss k s t at leading ending x l =
-    ap₂ (λ (ts : List ClientMsg) (os : List Answer). let z : Ends =
-    record { client = l.client; up = messages l.up ++ ts; down = os ++ messages l.down } in z)
-    (each_same (taken_at x l.client.led) ss k s t at
-        (ap (λ (ls : List Leading). flat_map (λ (m : Leading). question_of l.client.led)
-        (filter (λ (m : Leading). m.leader.session.0 == x.0) ls)) leading))
-    (each_same (owed_at x) ss k s t at
-        (ap (λ (es : List Ending). map (λ (z : Ending). answer.Led z.end) (filter (λ (z : Ending). z.session.0 == x.0) es)) ending))
 
 module _ (k from skew greatest : ℕ) (c : Cluster) (s : Server) (at : slice_get c.servers k ≡ Some s)
     (h : ClusterStands skew greatest c) (m : ToDecide) (comes : IsThere k (FromPeer from (peer.Decide m)) c) where
@@ -200,7 +180,7 @@ module _ (k from skew greatest : ℕ) (c : Cluster) (s : Server) (at : slice_get
       ∙ same_held greatest w before its behind whole own (h.parts s s_in)
 
   ends_then : (x : Session) → ends_in after x ≡ ends_in c x
-  ends_then x = ends_stay c.servers k s then at refl refl x (c.lines x)
+  ends_then x = ends_same c.servers k s then at refl refl x (c.lines x)
 
   alike : AreAlike (with_locks relock applied) (world_meanwhile then after)
   alike = record {

@@ -118,7 +118,7 @@ module _ (k skew greatest : ℕ) (c : Cluster) (s : Server) (at : slice_get c.se
 
   -- ## What is told
 
-  telling_then : telling_of after.in_flight ≡ telling_of c.in_flight ++ map (decision_word k t d) out
+  pub telling_then : telling_of after.in_flight ≡ telling_of c.in_flight ++ map (decision_word k t d) out
   telling_then = telling_append c.in_flight _ ∙ ap (λ ws. telling_of c.in_flight ++ ws) (decision_words k t d out by (end_of_decision d))
 
   pub parcels_then : parcels_of after.in_flight ≡ parcels_of c.in_flight

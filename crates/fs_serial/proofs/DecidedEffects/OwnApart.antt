@@ -38,6 +38,7 @@ use Rattle.fs_serial.proofs.Transactions.AwaitedWords.{there as got_there}
 use Rattle.fs_serial.proofs.Transactions.Desks.{IsDecidingWord, telling_append}
 use Rattle.fs_serial.proofs.Transactions.OneOfSession.{ends_its, one_txn as one_txn_of, txns_of}
 use Rattle.fs_serial.proofs.Transactions.OwnersOfLocks.{part_txn}
+use Rattle.fs_serial.proofs.Transactions.OneOwner.{some_there}
 
 -- ## One word of a part
 
@@ -55,10 +56,6 @@ at_most key wanted (Awaited at) prepared told i = elim i.1 as (λ _. length told
   | done e none ↦ let n : length told ≡ 1 = ap length e in omega (arith, n)
 ]
 
-some_in : {X : Type 0} (x : X) (xs : List X) → In x xs → 1 ≤ length xs
-some_in x [] i = absurd i
-some_in x (y ∷ ys) i = omega arith
-
 -- two messages that stand apart, of one part, are two words of it
 two_words : (key : Key) (front back : List InFlight) (f g : InFlight) (x y : Told) → told_in f ≡ Some x → told_in g ≡ Some y
     → is_of key x ≡ true → is_of key y ≡ true → In g (front ++ back) → 2 ≤ length (told_of key (telling_of (front ++ f ∷ back)))
@@ -73,9 +70,9 @@ two_words key front back f g x y fx gy own its i =
     let all : length (told_of key (telling_of (front ++ f ∷ back))) ≡ length a + length (x ∷ b) =
     ap length whole ∙ length-append a (x ∷ b) in
     In-both g front back (2 ≤ length (told_of key (telling_of (front ++ f ∷ back))))
-    (λ j. let n : 1 ≤ length a = some_in y a (kept_in (is_of key) y (telling_of front) (In-filter_map told_in g y front j gy) its) in
+    (λ j. let n : 1 ≤ length a = some_there y a (kept_in (is_of key) y (telling_of front) (In-filter_map told_in g y front j gy) its) in
     omega (arith, all, n))
-    (λ j. let n : 1 ≤ length b = some_in y b (kept_in (is_of key) y (telling_of back) (In-filter_map told_in g y back j gy) its) in
+    (λ j. let n : 1 ≤ length b = some_there y b (kept_in (is_of key) y (telling_of back) (In-filter_map told_in g y back j gy) its) in
     omega (arith, all, n)) i
 
 -- ## One question or answer

@@ -232,7 +232,8 @@ none_still m e f d none = elim (either_file f (changed_file e)) as (λ _. node_o
     of_none (RemoveHandle a b c) k = absurd k
     of_none (SetInfo a b c) k = absurd k
 
-none_all : (m : RecordMap) (es : List Effect) (f : List ℕ) → AreDecided es → node_of (get m f) ≡ None → node_of (get (records_after_all m es) f) ≡ None
+-- and after all of them
+pub none_all : (m : RecordMap) (es : List Effect) (f : List ℕ) → AreDecided es → node_of (get m f) ≡ None → node_of (get (records_after_all m es) f) ≡ None
 none_all m [] f d none = none
 none_all m (e ∷ es) f d none = none_all (records_after m e) es f (λ x i. d x (inr i)) (none_still m e f (d e (inl refl)) none)
 

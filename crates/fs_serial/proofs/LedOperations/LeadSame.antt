@@ -42,10 +42,11 @@ use Rattle.fs_serial.specs.Seen.{with_all}
 use Rattle.fs_serial.proofs.LedOperations.Committing.{StaysApart, kind_there}
 use Rattle.fs_serial.proofs.LedOperations.MoveScripts.{file_led, home_led, source_led}
 use Rattle.fs_serial.proofs.LedOperations.MovedItems.{other_dir_lives}
+use Rattle.fs_serial.proofs.Places.AllHere.{record_at_home}
 use Rattle.fs_serial.proofs.Places.PutRecords.{AreOn}
-use Rattle.fs_serial.proofs.Places.OtherPlaces.{IsApart, Rest, effects_apart, effects_joined, itself, joined, record_here}
+use Rattle.fs_serial.proofs.Places.OtherPlaces.{IsApart, Rest, effects_apart, effects_joined, itself, joined}
 use Rattle.fs_serial.proofs.Places.ClusterPlaces.{IsBetween, between}
-use Rattle.fs_serial.proofs.OneServer.SameStep.{IsSameStep, apart, here, more, stepped}
+use Rattle.fs_serial.proofs.OneServer.SameStep.{IsSameStep, apart, more, stepped}
 use Rattle.fs_serial.proofs.OneServer.Sim.{IsSim}
 
 -- ## What is changed is here
@@ -111,7 +112,7 @@ module _ (k : ℕ) (c : Cluster) (s : Server) (by : Session) (m : ToLead) (at : 
   -- what lives in what all hold, and is managed here, has its record here
   lives_here : (file : List ℕ) → is_mine s file ≡ true → kind_of (node_of (get (with_all s c).records file)) ≡ Some Dir → is_some (get s.records file) ≡ true
   lives_here file mine lives =
-      let same : get (with_all s c).records file ≡ get s.records file = ap (λ (t : Server). get t.records file) (here k c s places b) ∙ record_here (more k c s places b) s (apart k c s places b) file mine in
+      let same : get (with_all s c).records file ≡ get s.records file = record_at_home k c s at places file mine in
       of_node (get s.records file) (subst (λ o. kind_of (node_of o) ≡ Some Dir) same lives)
     where
       of_node : (o : Option Record) → kind_of (node_of o) ≡ Some Dir → is_some o ≡ true

@@ -214,11 +214,11 @@ module _ (greatest : ℕ) (w : World) (by : Session) (m : ToLead) (up : (w.ends 
     abbrev effects : List Effect
     effects = led_effects l.entry.op l.file (reply_of l.entry.op)
 
-    effects_past : AllApart w.decided effects
+    pub effects_past : AllApart w.decided effects
     effects_past = subst (λ r. AllApart w.decided (led_effects l.entry.op l.file r)) (sym same_reply) past
 
     -- some of them are applied, and the others are decided: one step of what all hold together
-    one_step : (sends : Effect → Bool) → IsSplit sends effects → held_with (effects_in (w.decided ++ decided_for by (going sends effects))) (records_after_all s.records (staying sends effects)) ≡ records_after_all there.records effects
+    pub one_step : (sends : Effect → Bool) → IsSplit sends effects → held_with (effects_in (w.decided ++ decided_for by (going sends effects))) (records_after_all s.records (staying sends effects)) ≡ records_after_all there.records effects
     one_step sends split =
         ap (λ es. held_with es (records_after_all s.records (staying sends effects))) (effects_sent by w.decided (going sends effects))
         ∙ split_past s.records (effects_in w.decided) effects sends f.all.records (all_decided w.decided s w.journal f.all) split.decided

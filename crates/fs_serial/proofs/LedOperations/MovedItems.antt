@@ -34,7 +34,7 @@ use Rattle.fs_view.specs.declared.walk.Walk.{Walk}
 use Rattle.fs_serial.proofs.Replies.Naming.{reply_behind}
 
 -- what is told to be the child is told to be the file of the name
-child_is : (v : Option Value) (file : List ℕ) → file_told v ≡ Some file → child_told v ≡ Some (Some file)
+pub child_is : (v : Option Value) (file : List ℕ) → file_told v ≡ Some file → child_told v ≡ Some (Some file)
 child_is None file h = absurd (cc)
 child_is (Some (value.Child c)) file h = ap Some h
 child_is (Some (value.Life k)) file h = absurd (cc)
@@ -45,11 +45,11 @@ child_is (Some value.SelfW) file h = absurd (cc)
 child_is (Some (value.Other b)) file h = absurd (cc)
 
 -- the item stands first, and what stands behind it
-stands_first : (n : Need) (b : Bool) (w : Walk) → In n (behind n b w).items
+pub stands_first : (n : Need) (b : Bool) (w : Walk) → In n (behind n b w).items
 stands_first n true w = inl refl
 stands_first n false w = inl refl
 
-stands_behind : (n x : Need) (b : Bool) (w : Walk) → In x w.items → In x (behind n b w).items
+pub stands_behind : (n x : Need) (b : Bool) (w : Walk) → In x w.items → In x (behind n b w).items
 stands_behind n x true w i = inr i
 stands_behind n x false w i = inr i
 
@@ -67,11 +67,11 @@ module _ (known : Known) (given : Given) where
   abbrev Comes : Script → Reply → Type 0
   Comes s r = (walk_along known given s).reply ≡ Some r
 
-  past : (o : Option Reply) (s : Script) (r : Reply) → ((x : Reply) → o ≡ Some x → x ≡ r → ⊥) → Comes (unless o s) r → (o ≡ None) × Comes s r
+  pub past : (o : Option Reply) (s : Script) (r : Reply) → ((x : Reply) → o ≡ Some x → x ≡ r → ⊥) → Comes (unless o s) r → (o ≡ None) × Comes s r
   past None s r wrong h = (refl, h)
   past (Some x) s r wrong h = absurd (wrong x refl (cc))
 
-  no_dir_else : (o : Option (Option Kind)) (x r : Reply) → (r ≡ reply.Gone → ⊥) → (r ≡ reply.NotDir → ⊥) → no_dir o ≡ Some x → x ≡ r → ⊥
+  pub no_dir_else : (o : Option (Option Kind)) (x r : Reply) → (r ≡ reply.Gone → ⊥) → (r ≡ reply.NotDir → ⊥) → no_dir o ≡ Some x → x ≡ r → ⊥
   no_dir_else None x r a b h e = absurd (cc)
   no_dir_else (Some None) x r a b h e = let q : reply.Gone ≡ x = cc in a (sym (q ∙ e))
   no_dir_else (Some (Some File)) x r a b h e = let q : reply.NotDir ≡ x = cc in b (sym (q ∙ e))

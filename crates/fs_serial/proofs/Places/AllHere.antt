@@ -1,6 +1,7 @@
 -- What is managed at a server is there, of all rows and records.
 use Rattle.std.proofs.Common.{◌≡◌, ℕ, true, false, List, ap, subst, sym, ◌∙◌, inl, inr}
 use Rattle.std.specs.Prelude.{Some, slice_get}
+use Rattle.std.specs.FinMap.{get}
 use Rattle.fs_ident.specs.In.{In}
 use Rattle.fs_field.specs.declared.row.Row.{Row}
 use Rattle.fs_field.specs.Field.{file_of}
@@ -8,9 +9,9 @@ use Rattle.fs_moderows.proofs.Moves.{came_or_was}
 use Rattle.fs_server.specs.Server.{is_mine}
 use Rattle.fs_server.specs.declared.state.Server.{Server}
 use Rattle.fs_serial.specs.Cluster.{Cluster, parcels_of}
-use Rattle.fs_serial.specs.Joined.{rows_of_all}
+use Rattle.fs_serial.specs.Joined.{records_of_all, rows_of_all}
 use Rattle.fs_serial.specs.Places.{PlacesHold}
-use Rattle.fs_serial.proofs.Places.OtherPlaces.{IsApart, Rest, joined}
+use Rattle.fs_serial.proofs.Places.OtherPlaces.{IsApart, Rest, joined, record_here}
 use Rattle.fs_serial.proofs.Places.ClusterPlaces.{IsBetween, all_here, apart_of, between, rest_of}
 
 module _ (k : ℕ) (c : Cluster) (s : Server) (is : slice_get c.servers k ≡ Some s) (places : PlacesHold c) where
@@ -35,3 +36,8 @@ module _ (k : ℕ) (c : Cluster) (s : Server) (is : slice_get c.servers k ≡ So
     | inl j ↦ let wrong : true ≡ false = sym mine ∙ apart.rows r j in absurd (cc)
     | inr j ↦ j
   ]
+
+  -- and the record of each such file
+  pub record_at_home : (file : List ℕ) → is_mine s file ≡ true
+      → get (records_of_all c.servers (parcels_of c.in_flight)) file ≡ get s.records file
+  record_at_home file mine = ap (λ (t : Server). get t.records file) (all_here c k s places b) ∙ record_here rest s apart file mine

@@ -35,6 +35,7 @@ use Rattle.fs_serial.proofs.Lists.Traffic.{messages}
 use Rattle.fs_serial.proofs.Transactions.OneOfSession.{all_owed_due, due_both}
 use Rattle.fs_serial.proofs.Transactions.OthersKeep.{client_keeps_led}
 use Rattle.fs_serial.proofs.Transactions.Tables.{In_all}
+use Rattle.fs_serial.proofs.Transactions.OneOwner.{some_there}
 
 -- ## The client
 
@@ -77,10 +78,6 @@ hear_waits c now from n (answer.Led e) h t = absurd (cc t)
 
 -- ## No end is told while a transaction stands
 
-pub some_length : {X : Type 0} (x : X) (xs : List X) → In x xs → 1 ≤ length xs
-some_length x [] i = absurd i
-some_length x (y ∷ ys) i = omega arith
-
 module _ (by : Session) (c : Cluster) (one : length (ends_in c by).up + length (due (ends_in c by).down) ≤ 1) where
   abbrev asked : List ClientMsg
   asked = messages (c.lines by).up
@@ -97,7 +94,7 @@ module _ (by : Session) (c : Cluster) (one : length (ends_in c by).up + length (
       let its : In (message.Lead (lead_of d)) (taken_at by (Some d) s) = In_all (λ (m : Leading). question_of (Some d))
       (message.Lead (lead_of d)) l (filter (λ (m : Leading). m.leader.session.0 == by.0) s.leading) among (inl refl) in
       subst (λ x. 1 ≤ length (taken_leads by x c.servers)) (sym led)
-      (some_length (message.Lead (lead_of d)) (taken_leads by (Some d) c.servers)
+      (some_there (message.Lead (lead_of d)) (taken_leads by (Some d) c.servers)
       (In_all (taken_at by (Some d)) (message.Lead (lead_of d)) s c.servers i its))
 
   pub owed : (s : Server) → In s c.servers → (x : Ending) → In x s.ending → x.session ≡ by → 1 ≤ length (owed_to by c.servers)
@@ -106,7 +103,7 @@ module _ (by : Session) (c : Cluster) (one : length (ends_in c by).up + length (
       (ap (λ (z : Session). z.0 == by.0) own ∙ itself by.0) in
       let its : In (answer.Led x.end) (owed_at by s) = In-mapped (λ (m : Ending). answer.Led m.end) x
       (filter (λ (m : Ending). m.session.0 == by.0) s.ending) among in
-      some_length (answer.Led x.end) (owed_to by c.servers) (In_all (owed_at by) (answer.Led x.end) s c.servers i its)
+      some_there (answer.Led x.end) (owed_to by c.servers) (In_all (owed_at by) (answer.Led x.end) s c.servers i its)
 
   -- an answer that is due is the only one
   pub no_end_told : (n : ℕ) (d : Led) → IsLedBy c.lines by n d → (s : Server) → In s c.servers → LeadsFor s by → (a : Answer) → In a heard
@@ -117,7 +114,7 @@ module _ (by : Session) (c : Cluster) (one : length (ends_in c by).up + length (
       let down : length (due (ends_in c by).down) ≡ length (owed_to by c.servers) + length (due heard) =
       ap length (due_both (owed_to by c.servers) heard ∙ ap (λ ys. ys ++ due heard) (all_owed_due by c.servers))
       ∙ length-append (owed_to by c.servers) (due heard) in
-      let told_one : 1 ≤ length (due heard) = some_length a (due heard)
+      let told_one : 1 ≤ length (due heard) = some_there a (due heard)
       (kept_in (λ (x : Answer). not (is_recall x)) a heard j (no_recall a t)) in
       elim leads as (λ _. ⊥) [
         | inl q ↦ let more : 1 ≤ length (taken_leads by (c.lines by).client.led c.servers) = taken d waits.led s i q.0 q.1.0 q.1.1 in

@@ -20,7 +20,7 @@ use Rattle.fs_serial.proofs.Transactions.LedPrepared.{OneEach}
 use Rattle.fs_serial.proofs.Transactions.OneOfSession.{leads_its, one_txn, txns_of, with_asked}
 use Rattle.fs_serial.proofs.Transactions.OwnersOfLocks.{Its, kept_txn, said_txn}
 
-some_there : {X : Type 0} (x : X) (xs : List X) → In x xs → 1 ≤ length xs
+pub some_there : {X : Type 0} (x : X) (xs : List X) → In x xs → 1 ≤ length xs
 some_there x [] i = absurd i
 some_there x (y ∷ ys) i = omega arith
 

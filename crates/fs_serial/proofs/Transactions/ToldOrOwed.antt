@@ -41,8 +41,8 @@ use Rattle.fs_serial.proofs.ClientMessages.Sending.{asked}
 use Rattle.fs_serial.proofs.Lists.EachAt.{each_alone, each_none, each_same, none_long, nothing_of}
 use Rattle.fs_serial.proofs.Lists.Traffic.{messages}
 use Rattle.fs_serial.proofs.OneServer.ServerEvents.{one_up}
-use Rattle.fs_serial.proofs.Transactions.ClientsWait.{some_length}
 use Rattle.fs_serial.proofs.Transactions.OneOfSession.{all_owed_due, due_both, leads_its, one_txn}
+use Rattle.fs_serial.proofs.Transactions.OneOwner.{some_there}
 use Rattle.fs_serial.proofs.Transactions.SeenMeanwhile.{meanwhile_sent}
 use Rattle.fs_serial.proofs.Transactions.Tables.{In_all, all_stay, in_without_leading, none_stay}
 
@@ -155,7 +155,7 @@ module _ (k skew greatest : ℕ) (c : Cluster) (s : Server) (at : slice_get c.se
   asks_no_more : messages (c.lines by).up ≡ []
   asks_no_more =
       let some : 1 ≤ length (taken_leads by (c.lines by).client.led c.servers) =
-          some_length asks (taken_leads by (c.lines by).client.led c.servers) taken_some in
+          some_there asks (taken_leads by (c.lines by).client.led c.servers) taken_some in
       none_long (messages (c.lines by).up) (omega (arith, counted, some))
 
   -- nothing is owed to it
@@ -190,7 +190,7 @@ module _ (k skew greatest : ℕ) (c : Cluster) (s : Server) (at : slice_get c.se
 
   taken_gone : taken_leads by (c.lines by).client.led servers ≡ []
   taken_gone =
-      let some : 1 ≤ length (taken_at by (Some m) s) = some_length asks (taken_at by (Some m) s) taken_here in
+      let some : 1 ≤ length (taken_at by (Some m) s) = some_there asks (taken_at by (Some m) s) taken_here in
       let all : length (taken_leads by (c.lines by).client.led c.servers) ≡ length (taken_leads by (Some m) c.servers) =
           ap (λ o. length (taken_leads by o c.servers)) led_is in
       ap (λ o. taken_leads by o servers) led_is

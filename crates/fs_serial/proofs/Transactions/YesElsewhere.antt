@@ -29,6 +29,8 @@ pub record IsReadyElsewhere (c : Cluster) (parts : Key → Wanted) (l : Leading)
   pub asked : slice_get l.leader.parts n.0 ≡ Some part
   pub wanted : parts (key_of l.leader.txn n.0) ≡ (let w : Wanted = record { session = l.leader.session; part = part } in w)
   pub vote : slice_get l.leader.votes n.0 ≡ Some (Some Yes)
+  pub place : slice_get l.at n.0 ≡ Some n.1
+  pub away : (n.1 == l.leader.txn.server) ≡ false
   pub ready : HasReady c.servers (key_of l.leader.txn n.0) n.1 (parts (key_of l.leader.txn n.0))
   pub there : n.1 < length c.servers
 
@@ -64,7 +66,8 @@ module _ (k : ℕ) (c : Cluster) (s : Server) (at : slice_get c.servers k ≡ So
       alone key place w prepared true e h = absurd (cc)
       alone key place w prepared false e h = h.here
 
-  ready_there : (n : ℕ × ℕ) → slice_get l.leader.votes n.0 ≡ Some (Some Yes) → slice_get l.at n.0 ≡ Some n.1
+  -- the server of a part that said Yes elsewhere has it ready
+  pub ready_there : (n : ℕ × ℕ) → slice_get l.leader.votes n.0 ≡ Some (Some Yes) → slice_get l.at n.0 ≡ Some n.1
       → (n.1 == s.me) ≡ false → IsReadyElsewhere c held.parts l n
   ready_there n v a f =
       let part = in_range l.leader.votes l.leader.parts n.0 (Some Yes) leads.votes v in
@@ -75,6 +78,8 @@ module _ (k : ℕ) (c : Cluster) (s : Server) (at : slice_get c.servers k ≡ So
         asked = part.1;
         wanted = leads.wanted n.0 part.0 part.1;
         vote = v;
+        place = a;
+        away = ap (λ j. n.1 == j) leads.own ∙ f;
         ready = ready;
         there = slice_get_within c.servers n.1 ready.server ready.there;
       }
