@@ -49,8 +49,9 @@ use Rattle.fs_serial.proofs.Lists.Journals.{session_itself}
 use Rattle.fs_serial.proofs.Lists.SetAt.{In_without}
 use Rattle.fs_serial.proofs.Lists.Traffic.{IsTaken, messages, messages_append, taken_first}
 use Rattle.fs_serial.proofs.OneServer.ClientEvents.{client_keeps, hear_keeps, turn_keeps}
-use Rattle.fs_serial.proofs.Transactions.ClientsWait.{client_waits, owed, some_length, waiting_keeps_led}
+use Rattle.fs_serial.proofs.Transactions.ClientsWait.{client_waits, owed, waiting_keeps_led}
 use Rattle.fs_serial.proofs.Transactions.OneOfSession.{all_owed_due, due_both, leads_at}
+use Rattle.fs_serial.proofs.Transactions.OneOwner.{some_there}
 use Rattle.fs_serial.proofs.Transactions.Tables.{In_some}
 use Rattle.fs_serial.proofs.WholeRuns.ClusterClients.{ends_here, ends_twice, made_later, places_later, some_server}
 use Rattle.fs_serial.proofs.WholeRuns.Planned.{IsPosted, act_posted, addressed_among, hear_posted, turn_posted}
@@ -279,7 +280,7 @@ module _ (skew greatest : ℕ) (c : Cluster) (by : Session) (h : ClusterStands s
         let heard : List Answer = messages lines.down in
         let down : length (due (ends_in c by).down) ≡ length its + length (due heard) =
             ap length (due_both its heard ∙ ap (λ ys. ys ++ due heard) (all_owed_due by c.servers)) ∙ length-append its (due heard) in
-        let told : 1 ≤ length (due heard) = some_length a (due heard) (kept_in (λ (x : Answer). not (is_recall x)) a heard
+        let told : 1 ≤ length (due heard) = some_there a (due heard) (kept_in (λ (x : Answer). not (is_recall x)) a heard
             (In-mapped (λ (m : ℕ × Answer). m.1) (from, a) lines.down coming) (ap not e)) in
         let one : length (ends_in c by).up + length (due (ends_in c by).down) ≤ 1 = few_one in
         absurd (omega (arith, one, down, told, more))

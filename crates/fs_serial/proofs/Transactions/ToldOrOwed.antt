@@ -11,7 +11,7 @@ use Rattle.fs_ident.specs.declared.actor.Peer.{Peer}
 use Rattle.fs_ident.specs.declared.actor.Session.{Session}
 use Rattle.fs_ident.specs.declared.actor.TxnNo.{TxnNo}
 use Rattle.fs_ident.proofs.Same.{itself, one_session}
-use Rattle.fs_ident.proofs.Standing.{In-behind, In-got, none_pass}
+use Rattle.fs_ident.proofs.Standing.{In-got, none_pass}
 use Rattle.fs_field.specs.Table.{same_txn}
 use Rattle.fs_msg.specs.declared.answer.Answer.{Answer}
 use Rattle.fs_msg.specs.declared.answer.Answer.TheVariants as answer
@@ -40,11 +40,11 @@ use Rattle.fs_serial.proofs.ClientMessages.Reordered.{reordered}
 use Rattle.fs_serial.proofs.ClientMessages.Sending.{asked}
 use Rattle.fs_serial.proofs.Lists.EachAt.{each_alone, each_none, each_same, none_long, nothing_of}
 use Rattle.fs_serial.proofs.Lists.Traffic.{messages}
-use Rattle.fs_serial.proofs.OneServer.ServerEvents.{one_up}
 use Rattle.fs_serial.proofs.Transactions.OneOfSession.{all_owed_due, due_both, leads_its, one_txn}
 use Rattle.fs_serial.proofs.Transactions.OneOwner.{some_there}
 use Rattle.fs_serial.proofs.Transactions.SeenMeanwhile.{meanwhile_sent}
 use Rattle.fs_serial.proofs.Transactions.Tables.{In_all, all_stay, in_without_leading, none_stay}
+use Rattle.fs_serial.proofs.Transactions.Undecided.{up_led}
 
 -- ## Lists
 
@@ -140,9 +140,7 @@ module _ (k skew greatest : ℕ) (c : Cluster) (s : Server) (at : slice_get c.se
       (In_all (taken_at by (Some m)) asks s c.servers s_in taken_here)
 
   pub its_up : (ends_in c by).up ≡ Lead (lead_of m) ∷ []
-  its_up =
-      one_up (c.lines by).client (c.lines by).client.exchange (ends_in c by).up (ends_in c by).down asks
-      (In-behind asks (messages (c.lines by).up) (taken_leads by (c.lines by).client.led c.servers) taken_some) (view.exchanges by).one
+  its_up = up_led skew greatest c s s_in h by s s_in l there refl m led_is
 
   pub silent : due (ends_in c by).down ≡ []
   silent = (asked greatest (world_meanwhile s c) s c.journal by asks its_end its_up view).silent
