@@ -37,6 +37,7 @@ pub mod Aborted
 pub mod OtherEvents
 pub mod OtherSteps
 pub mod ClientsStand
+pub mod FirstStands
 pub mod PlacesAfter
 pub mod YesElsewhere
 pub mod DecisionPlaces

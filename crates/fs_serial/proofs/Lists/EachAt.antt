@@ -1,8 +1,9 @@
 -- What each item of a list gives, one after another, where one item is replaced.
 use Rattle.std.proofs.Common.{◌≡◌, ◌+◌, ◌≤◌, ℕ, zero, suc, List, [], ◌∷◌, ◌++◌, length, refl, sym, ap, ◌∙◌, append-nil}
-use Rattle.std.proofs.Common.{length-append, arith}
+use Rattle.std.proofs.Common.{length-append, inl, inr, arith}
 use Rattle.std.specs.Prelude.{Some, slice_get, slice_set}
 use Rattle.std.specs.List.{flat_map}
+use Rattle.fs_ident.specs.In.{In}
 
 pub none_long : {X : Type 0} (xs : List X) → length xs ≤ 0 → xs ≡ []
 none_long [] h = refl
@@ -55,3 +56,8 @@ each_none f xs k x h none =
     let few : length (f x) ≤ length (flat_map f xs) = one_of_all f xs k x h in
     let zero_long : length (flat_map f xs) ≡ 0 = ap length none in
     none_long (f x) (omega (arith, few, zero_long))
+
+-- where each gives none
+pub none_each : {X Y : Type 0} (f : X → List Y) (xs : List X) → ((x : X) → In x xs → f x ≡ []) → flat_map f xs ≡ []
+none_each f [] h = refl
+none_each f (x ∷ xs) h = ap (λ ys. ys ++ flat_map f xs) (h x (inl refl)) ∙ none_each f xs (λ y i. h y (inr i))

@@ -131,7 +131,7 @@ module _ (n skew term greatest : ℕ) where
   c = first_cluster (suc n) skew term
 
   -- each is one of the first servers
-  each : (P : Server → Type 0) → ((k : ℕ) → P (first_server k skew term)) → (s : Server) → In s c.servers → P s
+  pub each : (P : Server → Type 0) → ((k : ℕ) → P (first_server k skew term)) → (s : Server) → In s c.servers → P s
   each P h s i = let q = In_at c.servers s i in subst P (sym (first_at skew term (suc n) q.place s q.is)) (h q.place)
 
   no_row : with_rows_of c.servers [] ≡ []
