@@ -2,7 +2,7 @@
 use mathlib.Core.Path.{fun_ext}
 use Rattle.std.proofs.Common.{◌≡◌, ◌==◌, ◌+◌, ◌≤◌, ℕ, Bool, not, true, false, List, [], ◌∷◌, ◌++◌, length, map, filter, cond}
 use Rattle.std.proofs.Common.{append_assoc, refl, sym, ap, ap₂, ◌∙◌, subst, inl, inr, length-append, arith}
-use Rattle.std.specs.Prelude.{Option, Some, None, slice_get}
+use Rattle.std.specs.Prelude.{◌≢◌, Option, Some, None, slice_get}
 use Rattle.std.specs.List.{flat_map}
 use Rattle.fs_ident.specs.In.{In}
 use Rattle.fs_ident.specs.declared.actor.Session.{Session}
@@ -12,10 +12,13 @@ use Rattle.fs_ident.proofs.Same.{one_session}
 use Rattle.fs_ident.proofs.Standing.{In-filter, In-got, In-map, In-mapped}
 use Rattle.fs_field.specs.Table.{same_txn}
 use Rattle.fs_model.specs.declared.op.Op.{Op}
+use Rattle.fs_msg.specs.declared.act.Act.{Act}
 use Rattle.fs_msg.specs.declared.answer.Answer.{Answer}
 use Rattle.fs_msg.specs.declared.client_msg.ClientMsg.{ClientMsg}
 use Rattle.fs_msg.specs.declared.client_note.ClientNote.{ClientNote}
+use Rattle.fs_msg.specs.declared.client_note.ClientNote.TheVariants as note
 use Rattle.fs_parcel.proofs.Both.{passing}
+use Rattle.fs_record.specs.Records.{nodes_of}
 use Rattle.fs_client.specs.Acts.{act_plan}
 use Rattle.fs_client.specs.Answers.{answer_plan}
 use Rattle.fs_client.specs.Client.{begun, committed}
@@ -35,12 +38,13 @@ use Rattle.fs_serial.specs.Cluster.ClientEvent.{Does, Turns, Hears}
 use Rattle.fs_serial.specs.Decided.{WorldStands}
 use Rattle.fs_serial.specs.Exchange.{OneExchange, asked_server, due, is_recall}
 use Rattle.fs_serial.specs.Leading.{IsLedBy, LeavesLedClient, LedHolds}
-use Rattle.fs_serial.specs.Meanwhile.{ClusterStands, world_meanwhile}
+use Rattle.fs_serial.specs.Meanwhile.{ClusterStands, held_meanwhile, world_meanwhile}
 use Rattle.fs_serial.specs.Owed.{ends_in, ends_with, owed_to, question_of, taken_leads}
 use Rattle.fs_serial.specs.Seen.{IsAddressed, counts_of, with_all}
 use Rattle.fs_serial.specs.Words.{decided_in, ending_at}
 use Rattle.fs_serial.specs.World.{Ends, World, WorldHolds, is_called, message_in, pushed, told_by, with_ends, with_told}
 use Rattle.fs_serial.specs.World as world
+use Rattle.fs_serial.proofs.ClientMessages.ActMoves.{with_items}
 use Rattle.fs_serial.proofs.ClientMessages.Reordered.{reordered, with_first}
 use Rattle.fs_serial.proofs.DecidedEffects.DecidedKept.{client_fits, plan_fits}
 use Rattle.fs_serial.proofs.DecidedEffects.Deciding.{deciding_in}
@@ -48,7 +52,8 @@ use Rattle.fs_serial.proofs.Lists.EachAt.{nothing_of}
 use Rattle.fs_serial.proofs.Lists.Journals.{session_itself}
 use Rattle.fs_serial.proofs.Lists.SetAt.{In_without}
 use Rattle.fs_serial.proofs.Lists.Traffic.{IsTaken, messages, messages_append, taken_first}
-use Rattle.fs_serial.proofs.OneServer.ClientEvents.{client_keeps, hear_keeps, turn_keeps}
+use Rattle.fs_serial.proofs.OneServer.ClientEvents.{acts_plainly, client_keeps, hear_keeps, never_strange, turn_keeps}
+use Rattle.fs_serial.proofs.Replies.Read.{plain_read}
 use Rattle.fs_serial.proofs.Transactions.ClientsWait.{client_waits, owed, waiting_keeps_led}
 use Rattle.fs_serial.proofs.Transactions.OneOfSession.{all_owed_due, due_both, leads_at}
 use Rattle.fs_serial.proofs.Transactions.OneOwner.{some_there}
@@ -235,6 +240,31 @@ module _ (skew greatest : ℕ) (c : Cluster) (by : Session) (h : ClusterStands s
         client_fits now (world_meanwhile s c) by (world.Does o) called tt (h.parts s i).1,
       ))
 
+  -- with any reading the root's kind joins the journal in place of what is read
+  abbrev pub plainly : ℕ → Op → Plan Act
+  plainly now o = with_items (λ i. plain_read (nodes_of (held_meanwhile c)) by lines.client.next) (act_plan lines.client now o)
+
+  pub plain_stands : (now : ℕ) (o : Op) → is_called o ≡ true → ClusterStands skew greatest (after_plan by lines.down (plainly now o) c)
+  plain_stands now o called =
+      let q : LedHolds (after_client by now (Does o) c) = waiting_keeps_led by now (Does o) c h.led few_one called in
+      plan_stands c by lines.down (plainly now o) skew greatest h (λ m i. i) (act_posted lines.client.over o (begun now lines.client))
+          (client_waits by c few_one now (Does o) called)
+          (record {
+            parts = q.parts;
+            stages = q.stages;
+            leading = q.leading;
+            ending = q.ending;
+            ready = q.ready;
+            locks = q.locks;
+            files = q.files;
+            few = q.few;
+            told = q.told;
+          })
+      (λ s i. (
+        acts_plainly greatest now (world_meanwhile s c) by (h.parts s i).0 o called,
+        plan_fits by (ends_in c by).down (plainly now o) (world_meanwhile s c) (λ d j same none. none) (h.parts s i).1,
+      ))
+
   -- ## An answer, which may have overtaken those of other servers
 
   module _ (from : ℕ) (a : Answer) (can : CanCome by (Hears from a) c) where
@@ -353,6 +383,16 @@ module _ (skew greatest : ℕ) (c : Cluster) (by : Session) (h : ClusterStands s
 
       seen_hears : WorldStands greatest (world.after_plan by (its ++ messages rest) plan w)
       seen_hears = (seen_holds, plan_fits by (its ++ messages rest) plan w still_due (h.parts s i).1)
+
+      -- the answer fits
+      not_strange : plan.out.note ≢ note.Strange
+      not_strange = subst (λ (d : Client). (answer_plan d now from a).out.note ≢ note.Strange) (ap (λ (e : Ends). e.client) here)
+          (never_strange greatest now first by first_holds from a (front ++ back)
+          (ap (λ (e : Ends). e.down) here,
+              λ d. ap (λ (e : Ends). asked_server e.client.exchange) here ∙ (h.addressed by).down (from, a) coming d))
+
+    pub answer_known : (now : ℕ) → (answer_plan lines.client now from a).out.note ≢ note.Strange
+    answer_known now = let q = some_server c h.places in not_strange now q.0 q.1
 
     pub hears_stands : (now : ℕ) → ClusterStands skew greatest (after_client by now (Hears from a) c)
     hears_stands now =
