@@ -9,3 +9,4 @@ pub mod ClusterRuns
 pub mod Strange
 pub mod AnyReadings
 pub mod LedKept
+pub mod LedDecisions
