@@ -8,3 +8,5 @@ pub mod FirstCluster
 pub mod ClusterRuns
 pub mod Strange
 pub mod AnyReadings
+pub mod LedKept
+pub mod LedDecisions
