@@ -48,6 +48,7 @@ use Rattle.fs_serial.proofs.ClientMessages.ActMoves.{with_items}
 use Rattle.fs_serial.proofs.ClientMessages.Reordered.{reordered, with_first}
 use Rattle.fs_serial.proofs.DecidedEffects.DecidedKept.{client_fits, plan_fits}
 use Rattle.fs_serial.proofs.DecidedEffects.Deciding.{deciding_in}
+use Rattle.fs_serial.proofs.DecidedEffects.OwnApart.{one_each}
 use Rattle.fs_serial.proofs.Lists.EachAt.{nothing_of}
 use Rattle.fs_serial.proofs.Lists.Journals.{session_itself}
 use Rattle.fs_serial.proofs.Lists.SetAt.{In_without}
@@ -75,21 +76,6 @@ none_before c (Some x) up m down (inr h) = let q : m ∷ [] ≡ [] = (nothing_of
 none_before c (Some x) [] m down (inl h) = refl
 none_before c (Some x) (u ∷ []) m down (inl h) = let q = h.asked in absurd (cc q)
 none_before c (Some x) (u ∷ v ∷ us) m down (inl h) = let q = h.asked in absurd (cc q)
-
-one_at_most : (c : Client) (x : Option Exchange) (up : List ClientMsg) (down : List Answer) → OneExchange c x up down
-    → length up + length (due down) ≤ 1
-one_at_most c None up down h =
-    let a : length up ≡ 0 = ap length h.0 in
-    let b : length (due down) ≡ 0 = ap length h.1 in
-    omega (arith, a, b)
-one_at_most c (Some x) up down (inl h) =
-    let a : length up ≡ 1 = ap length h.asked in
-    let b : length (due down) ≡ 0 = ap length h.silent in
-    omega (arith, a, b)
-one_at_most c (Some x) up down (inr h) =
-    let a : length up ≡ 0 = ap length h.asked in
-    let b : length (due down) ≡ 1 = ap length h.told in
-    omega (arith, a, b)
 
 module _ (c : Cluster) (by : Session) where
   abbrev l : Lines
@@ -217,9 +203,7 @@ module _ (skew greatest : ℕ) (c : Cluster) (by : Session) (h : ClusterStands s
   its = owed_to by c.servers
 
   few_one : length (ends_in c by).up + length (due (ends_in c by).down) ≤ 1
-  few_one =
-      let q = some_server c h.places in
-      one_at_most lines.client lines.client.exchange (ends_in c by).up (ends_in c by).down (((h.parts q.0 q.1).0).exchanges by).one
+  few_one = let q = some_server c h.places in one_each skew greatest c h q.0 q.1 by
 
   pub turn_stands : (now : ℕ) → ClusterStands skew greatest (after_client by now Turns c)
   turn_stands now =

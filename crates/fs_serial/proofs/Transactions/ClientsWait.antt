@@ -1,6 +1,6 @@
 -- A session for which an operation is led waits for its server, whatever else its client does.
-use Rattle.std.proofs.Common.{◌≡◌, ◌==◌, ◌+◌, ◌≤◌, ◌++◌, ℕ, Bool, true, false, not, List, []}
-use Rattle.std.proofs.Common.{◌∷◌, length, refl, sym, ap, ◌∙◌, subst, cond, inl, inr, filter, arith, length-append}
+use Rattle.std.proofs.Common.{◌≡◌, ◌==◌, ◌+◌, ◌≤◌, ◌++◌, ℕ, Bool, true, false, not, List}
+use Rattle.std.proofs.Common.{length, refl, sym, ap, ◌∙◌, subst, cond, inl, inr, filter, arith, length-append}
 use Rattle.std.specs.Prelude.{Some, None, is_some}
 use Rattle.fs_ident.specs.In.{In}
 use Rattle.fs_ident.specs.declared.actor.Session.{Session}

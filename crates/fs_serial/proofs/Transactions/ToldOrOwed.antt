@@ -38,6 +38,7 @@ use Rattle.fs_serial.specs.World.{Ends, World, WorldHolds, with_answer, with_end
 use Rattle.fs_serial.specs.World as world
 use Rattle.fs_serial.proofs.ClientMessages.Reordered.{reordered}
 use Rattle.fs_serial.proofs.ClientMessages.Sending.{asked}
+use Rattle.fs_serial.proofs.DecidedEffects.OwnApart.{one_each}
 use Rattle.fs_serial.proofs.Lists.EachAt.{each_alone, each_none, each_same, none_long, nothing_of}
 use Rattle.fs_serial.proofs.Lists.Traffic.{messages}
 use Rattle.fs_serial.proofs.Transactions.OneOfSession.{all_owed_due, due_both, leads_its, one_txn}
@@ -163,10 +164,7 @@ module _ (k skew greatest : ℕ) (c : Cluster) (s : Server) (at : slice_get c.se
       ∙ sym (due_both (owed_to by c.servers) (messages (c.lines by).down)) ∙ silent)).0
 
   one : length (ends_in c by).up + length (due (ends_in c by).down) ≤ 1
-  one =
-      let a : length (ends_in c by).up ≡ 1 = ap length its_up in
-      let b : length (due (ends_in c by).down) ≡ 0 = ap length silent in
-      omega (arith, a, b)
+  one = one_each skew greatest c h s s_in by
 
   -- ## What its server leads then
 
