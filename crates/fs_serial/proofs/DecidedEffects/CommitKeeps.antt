@@ -183,11 +183,11 @@ module _ (k skew greatest : ℕ) (c : Cluster) (s : Server) (at : slice_get c.se
   pub own : (n : ℕ × ℕ) (p : Part) → In n (own_parts s.me l) → slice_get l.leader.parts n.0 ≡ Some p → is_mine s p.file ≡ true
   own n p i part =
       let u : IsUsed p.uses p.file = part_used (value_of (sight_in w).records by) d standing.leads answer p
-          (subst (In p) leads.leader.parts (In-got l.leader.parts n.0 p part)) in
+      (subst (In p) leads.leader.parts (In-got l.leader.parts n.0 p part)) in
       let y : Agreed = record { key = key_of l.leader.txn n.0; wanted = record { session = by; part = p } } in
       let said : In y (said_by s.me l) = said_so s.me l n.0 n.1 p i part in
       let all : In y (said_at s) =
-          In-behind y (map agreed_of s.prepared) (flat_map (said_by s.me) s.leading) (In_all (said_by s.me) y l s.leading there said) in
+      In-behind y (map agreed_of s.prepared) (flat_map (said_by s.me) s.leading) (In_all (said_by s.me) y l s.leading there said) in
       let r = (h.led.locks s here).locked y all u.used u.among in
       sym (ap (is_mine s) (ap file_of r.has.field ∙ u.file)) ∙ (h.places.homes s here).rows r.has.row r.has.stands
 

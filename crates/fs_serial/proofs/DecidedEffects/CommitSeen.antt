@@ -155,7 +155,7 @@ module _ (k skew greatest : ℕ) (c : Cluster) (s : Server) (at : slice_get c.se
       records_are =
           ap (records_of_all after.servers) parcels_then
           ∙ records_applied k c s y at h.places (own_effects s.me l committing) own_on
-              (ap (λ (e : Decision). records_after_all s.records (own_effects s.me l e)) decision_is)
+          (ap (λ (e : Decision). records_after_all s.records (own_effects s.me l e)) decision_is)
           ∙ split.0 all_records
 
       pub held_is : held_meanwhile after

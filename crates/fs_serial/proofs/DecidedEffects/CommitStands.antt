@@ -154,7 +154,7 @@ module _ (k skew greatest : ℕ) (c : Cluster) (s : Server) (at : slice_get c.se
   item_is =
       ap (λ x. admitted_of x l.leader) decided_so
       ∙ ap₂ (λ n o. let i : Item = record { by = Client by; n = n; op = o; reply = reply_of o } in
-          i ∷ []) leads.leader.number leads.leader.op
+      i ∷ []) leads.leader.number leads.leader.op
 
   end_is : end.Done (reply_of m.op) ≡ end_of_decision (decision l.leader None)
   end_is = ap (λ o. end.Done (reply_of o)) (sym leads.leader.op) ∙ sym (ap end_of_decision decided_so)
@@ -189,7 +189,7 @@ module _ (k skew greatest : ℕ) (c : Cluster) (s : Server) (at : slice_get c.se
           (In-mapped (λ (y : Effect). let z : Decided = record { by = by; effect = y } in z) e (going sends es) i)));
       apart = λ a b i j files.
           let wrong : true ≡ false =
-              sym (passing sends es a i) ∙ goes_same s.me l a b files ∙ not-true (sends b) (passing (λ x. not (sends x)) es b j) in
+          sym (passing sends es a i) ∙ goes_same s.me l a b files ∙ not-true (sends b) (passing (λ x. not (sends x)) es b j) in
           absurd (cc wrong);
     }
 
@@ -219,7 +219,7 @@ module _ (k skew greatest : ℕ) (c : Cluster) (s : Server) (at : slice_get c.se
           rows = rows_are k skew greatest c s at h l there yes;
           records = held_then
               ∙ ap (λ es. held_with (effects_in (decided_in c ++ decided_for by (going sends es)))
-                  (records_after_all records (staying sends es)))
+              (records_after_all records (staying sends es)))
               effects_are;
           skew = refl;
           given = λ j. count_set given_at c.servers k s.me s.given t (h.places.numbered k s at) j;
@@ -250,7 +250,7 @@ module _ (k skew greatest : ℕ) (c : Cluster) (s : Server) (at : slice_get c.se
     abbrev GoPast : List Effect → Type 0
     GoPast xs = AllApart (decided_in c) xs × ((f : Effect → Bool) → IsSplit f xs
         → held_with (effects_in (decided_in c ++ decided_for by (going f xs))) (records_after_all records (staying f xs))
-            ≡ records_after_all held xs)
+        ≡ records_after_all held xs)
 
     go_past : GoPast es
     go_past = subst GoPast (sym effects_are) (subst (λ (x : TheLed). IsCommitted now by its x.entry x.file → GoPast (effects_by x)) same_led
@@ -277,13 +277,13 @@ module _ (k skew greatest : ℕ) (c : Cluster) (s : Server) (at : slice_get c.se
     put x i = subst (λ n. IsPutIn (nodes_of n) x.effect) (sym held_so)
         (elim (In-append x (decided_in c) (decided_for by (going sends es)) (subst (In x) decided_then i)) as
         (λ _. IsPutIn (nodes_of (records_after_all held es)) x.effect) [
-      | inl j ↦ put_past (nodes_of held) (nodes_of (records_after_all held es)) x.effect (place_past held x.effect es (go_past.0 x j))
-          (all_put skew greatest c h s here x j)
-      | inr j ↦
-          let q = In-map (λ (y : Effect). let z : Decided = record { by = by; effect = y } in z) x (going sends es) j in
-          subst (IsPutIn (nodes_of (records_after_all held es))) (sym (ap (λ (z : Decided). z.effect) q.1.1))
+          | inl j ↦ put_past (nodes_of held) (nodes_of (records_after_all held es)) x.effect (place_past held x.effect es (go_past.0 x j))
+              (all_put skew greatest c h s here x j)
+          | inr j ↦
+              let q = In-map (λ (y : Effect). let z : Decided = record { by = by; effect = y } in z) x (going sends es) j in
+              subst (IsPutIn (nodes_of (records_after_all held es))) (sym (ap (λ (z : Decided). z.effect) q.1.1))
               (its_fits.0 q.0 (In-filter sends q.0 es q.1.0))
-    ])
+        ])
 
     abbrev later : RecordMap
     later = records_after_all records (staying sends es)
@@ -297,9 +297,9 @@ module _ (k skew greatest : ℕ) (c : Cluster) (s : Server) (at : slice_get c.se
     old_fits : (x : Decided) → In x (decided_in c) → Fits x.effect
     old_fits x j =
         let q = stands_then (rows_in c) (rows_in c) records later (nodes_of held) (nodes_of (records_after_all held es)) c.journal more x
-            (locks_stay x.by (rows_in c)) (place_past held x.effect es (go_past.0 x j))
-            (going_past records x.effect (staying sends es) (λ e n. go_past.0 x j e (In-filter (λ y. not (sends y)) e es n)))
-            (made_more c.journal (led_item by m)) (view.1.all.stand x j) in
+        (locks_stay x.by (rows_in c)) (place_past held x.effect es (go_past.0 x j))
+        (going_past records x.effect (staying sends es) (λ e n. go_past.0 x j e (In-filter (λ y. not (sends y)) e es n)))
+        (made_more c.journal (led_item by m)) (view.1.all.stand x j) in
         (q.bare, q.file)
 
     -- a file that goes is as it was in what all hold together
@@ -311,9 +311,9 @@ module _ (k skew greatest : ℕ) (c : Cluster) (s : Server) (at : slice_get c.se
       same_node =
           going_past records (RemoveNode f) (staying sends es) (λ e j. split.apart (RemoveNode f) e i j)
           ∙ sym (going_past records (RemoveNode f) (effects_in (decided_in c)) (λ e j.
-            let q = In-map effect_of e (decided_in c) j in
-            subst (IsApart (RemoveNode f)) (sym q.1.1)
-                (beside (q.0).effect f (view.1.all.stand q.0 q.1.0).decided (go_past.0 q.0 q.1.0 (RemoveNode f) among))))
+          let q = In-map effect_of e (decided_in c) j in
+          subst (IsApart (RemoveNode f)) (sym q.1.1)
+          (beside (q.0).effect f (view.1.all.stand q.0 q.1.0).decided (go_past.0 q.0 q.1.0 (RemoveNode f) among))))
 
       file_is : (d.file ≡ f) × (d.kind ≡ File)
       file_is = goes_file d.entry.op d.file f d.kind of_files (subst (In (RemoveNode f)) effects_are among)
@@ -326,8 +326,7 @@ module _ (k skew greatest : ℕ) (c : Cluster) (s : Server) (at : slice_get c.se
       removed_fits : Fits (RemoveNode f)
       removed_fits =
           let bare = its_fits.1 f among in
-          let node : node_of (get later f) ≡ get (nodes_of held) f = same_node ∙ sym (node_there held f) in
-          (
+          let node : node_of (get later f) ≡ get (nodes_of held) f = same_node ∙ sym (node_there held f) in (
             (ap children_of node ∙ bare.0, ap handles_of node ∙ bare.1),
             (
               made_more c.journal (led_item by m) f (ap is_some (view.0.all.kept.made f File kind_is)),

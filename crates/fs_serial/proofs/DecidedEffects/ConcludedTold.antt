@@ -236,14 +236,14 @@ module _ (k skew greatest : ℕ) (c : Cluster) (s : Server) (at : slice_get c.se
           → HasLockFor rows_then t by (Child ddir dname) Exclusive
       lock_for sdir sname ddir dname e q =
           let at_home : same (file_of q.used.field) (home_of o) ≡ true =
-              ap₂ (λ f g. same (file_of f) g) q.field (ap home_of e) ∙ same_self ddir in
+          ap₂ (λ f g. same (file_of f) g) q.field (ap home_of e) ∙ same_self ddir in
           let among : In q.used home.uses =
-              kept_in (λ (u : Use). same (file_of u.field) (home_of o)) q.used it.entry.uses q.among at_home in
+          kept_in (λ (u : Use). same (file_of u.field) (home_of o)) q.used it.entry.uses q.among at_home in
           let said = In-behind first (map agreed_of s.prepared) (flat_map (said_by s.me) s.leading)
-              (In_all (said_by s.me) first l s.leading there (said_in s.me l first first_said)) in
+          (In_all (said_by s.me) first l s.leading there (said_in s.me l first first_said)) in
           let row = (h.led.locks s here).locked first said q.used among in
           let keeps : keeps_rows d ≡ true =
-              ap keeps_rows decided ∙ ap (λ z. keeps_rows (commit l.leader (reply_of z))) (leads.leader.op ∙ e) in
+          ap keeps_rows decided ∙ ap (λ z. keeps_rows (commit l.leader (reply_of z))) (leads.leader.op ∙ e) in
           record {
             row = row.has.row;
             stands = subst (In row.has.row) (sym (rows_kept keeps)) row.has.stands;
@@ -263,8 +263,8 @@ module _ (k skew greatest : ℕ) (c : Cluster) (s : Server) (at : slice_get c.se
       told_yes e j =
           let among : In e (effects_on its_effects r.part.file) = subst (In e) told_is j in
           let q = each_covered it.entry.uses r.part.file rows_then t by known always o it.entry.reply it.file off_home stands.leads
-              answers.answer.reply named answers.answer.covered
-              (new_name o refl (placed_items known always o it.entry.reply it.file stands.leads answers.answer.reply named)) e among in
+          answers.answer.reply named answers.answer.covered
+          (new_name o refl (placed_items known always o it.entry.reply it.file stands.leads answers.answer.reply named)) e among in
           subst (λ (w : Wanted). IsToldOf after.servers (key_of t x.0) w e) (sym r.wanted) (record {
             decided = q.decided;
             file = same_is (changed_file e) r.part.file (passing (λ z. same (changed_file z) r.part.file) its_effects e among);
@@ -286,13 +286,13 @@ module _ (k skew greatest : ℕ) (c : Cluster) (s : Server) (at : slice_get c.se
   concluded_few key to effects i =
       elim (In-append (word_to key to (Decide effects)) (telling_of c.in_flight) (map (decision_word k t d) out)
       (subst (In (word_to key to (Decide effects))) telling_then i)) as (λ _. length effects ≤ 1) [
-    | inl old ↦ h.led.few key to effects old
-    | inr new ↦
-        let q = In-map (decision_word k t d) (word_to key to (Decide effects)) out new in
-        let word : Decide effects ≡ Decide (told_effects d (q.0).0) = ap (λ (z : Told). z.word) q.1.1 in
-        let is : effects ≡ told_effects d (q.0).0 = cc in
-        subst (λ es. length es ≤ 1) (sym is) (few_new q.0 q.1.0 (first_end l.leader.votes) refl)
-  ]
+        | inl old ↦ h.led.few key to effects old
+        | inr new ↦
+            let q = In-map (decision_word k t d) (word_to key to (Decide effects)) out new in
+            let word : Decide effects ≡ Decide (told_effects d (q.0).0) = ap (λ (z : Told). z.word) q.1.1 in
+            let is : effects ≡ told_effects d (q.0).0 = cc in
+            subst (λ es. length es ≤ 1) (sym is) (few_new q.0 q.1.0 (first_end l.leader.votes) refl)
+      ]
 
   -- ## What was told before
 
@@ -308,14 +308,14 @@ module _ (k skew greatest : ℕ) (c : Cluster) (s : Server) (at : slice_get c.se
   concluded_told key to effects i e j =
       elim (In-append (word_to key to (Decide effects)) (telling_of c.in_flight) (map (decision_word k t d) out)
       (subst (In (word_to key to (Decide effects))) telling_then i)) as (λ _. IsToldOf after.servers key (h.led.parts key) e) [
-    | inl old ↦ told_then c.servers k s y at key (h.led.parts key) e
-        (λ q. rows_stay key.txn
+        | inl old ↦ told_then c.servers k s y at key (h.led.parts key) e
+            (λ q. rows_stay key.txn
             (decides.not_its k skew greatest c s at h l there d (word_to key to (Decide effects)) old effects refl))
-        (h.led.told key to effects old e j)
-    | inr new ↦
-        let q = In-map (decision_word k t d) (word_to key to (Decide effects)) out new in
-        let word : Decide effects ≡ Decide (told_effects d (q.0).0) = ap (λ (z : Told). z.word) q.1.1 in
-        let is : effects ≡ told_effects d (q.0).0 = cc in
-        subst (λ z. IsToldOf after.servers z (h.led.parts z) e) (sym (ap (λ (z : Told). z.key) q.1.1))
+            (h.led.told key to effects old e j)
+        | inr new ↦
+            let q = In-map (decision_word k t d) (word_to key to (Decide effects)) out new in
+            let word : Decide effects ≡ Decide (told_effects d (q.0).0) = ap (λ (z : Told). z.word) q.1.1 in
+            let is : effects ≡ told_effects d (q.0).0 = cc in
+            subst (λ z. IsToldOf after.servers z (h.led.parts z) e) (sym (ap (λ (z : Told). z.key) q.1.1))
             (told_new q.0 q.1.0 e (subst (In e) is j) (first_end l.leader.votes) refl)
-  ]
+      ]

@@ -126,10 +126,10 @@ module _ (k from skew greatest : ℕ) (c : Cluster) (s : Server) (at : slice_get
   decided_then : decided_in after ≡ before ++ behind
   decided_then =
       flat_map-append (λ (g : InFlight). decided_by after.servers g.message) (without_arrived k e c.in_flight)
-          (in_flight_from k (applies from m s).out.send)
+      (in_flight_from k (applies from m s).out.send)
       ∙ append-nil (decided_among after.servers (without_arrived k e c.in_flight))
       ∙ decided_same c.servers after.servers (without_arrived k e c.in_flight) (without_arrived k e c.in_flight)
-          (ended_set c.servers k s then at refl) refl
+      (ended_set c.servers k s then at refl) refl
       ∙ ap (decided_among c.servers) taken.left
       ∙ flat_map-append (λ (g : InFlight). decided_by c.servers g.message) taken.front taken.back
 
@@ -158,7 +158,7 @@ module _ (k from skew greatest : ℕ) (c : Cluster) (s : Server) (at : slice_get
   records_then =
       ap (records_of_all after.servers) parcels_then
       ∙ records_applied k c s then at h.places m.effects (told_here k c s at h.places h.led from m comes)
-          (in_their_order s.records m.effects (λ x i. (h.led.told key k m.effects told x i).decided))
+      (in_their_order s.records m.effects (λ x i. (h.led.told key k m.effects told x i).decided))
       ∙ ap (records_after_all records) (sym its_effects)
 
   abbrev w : World

@@ -28,7 +28,7 @@ stands_at : (servers : List Server) (txn : TxnNo) (x : Ending) → ended_in serv
     → (s : Server) × (In s servers × In x s.ending)
 stands_at servers txn x e =
     elim (slice_get servers txn.server) as
-        (λ o. slice_get servers txn.server ≡ o → ending_of txn (ending_at o) ≡ Some x → (s : Server) × (In s servers × In x s.ending)) [
+    (λ o. slice_get servers txn.server ≡ o → ending_of txn (ending_at o) ≡ Some x → (s : Server) × (In s servers × In x s.ending)) [
       | None ↦ λ f g. absurd (cc g)
       | Some s ↦ λ f g. (s, (In-got servers txn.server s f, (found (λ (y : Ending). same_txn y.txn txn) s.ending x g).0))
     ] refl e
@@ -43,9 +43,9 @@ decided_owed c d i none =
     let its = λ (z : Ending). z.session.0 == d.by.0 in
     let own : (x.session.0 == d.by.0) ≡ true = ap (λ (y : Session). x.session.0 == y.0) p.session ∙ itself x.session.0 in
     let here : In a (owed_at d.by at.0) =
-        In-mapped (λ (z : Ending). answer.Led z.end) x (filter its (at.0).ending) (kept_in its x (at.0).ending at.1.1 own) in
+    In-mapped (λ (z : Ending). answer.Led z.end) x (filter its (at.0).ending) (kept_in its x (at.0).ending at.1.1 own) in
     let all : In a (owed_to d.by c.servers) = In_all (owed_at d.by) a at.0 c.servers at.1.0 here in
     let among : In a (due (ends_in c d.by).down) =
-        kept_in (λ z. not (is_recall z)) a (ends_in c d.by).down
-            (In-front a (owed_to d.by c.servers) (messages (c.lines d.by).down) all) refl in
+    kept_in (λ z. not (is_recall z)) a (ends_in c d.by).down
+    (In-front a (owed_to d.by c.servers) (messages (c.lines d.by).down) all) refl in
     absurd (subst (In a) none among)

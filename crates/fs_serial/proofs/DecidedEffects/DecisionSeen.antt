@@ -68,12 +68,12 @@ none_told k txn d (x ∷ xs) more h = none_told k txn d xs more h
 words_decided : (k : ℕ) (servers : List Server) (txn : TxnNo) (d : Decision) (x : Ending) → ended_in servers txn ≡ Some x
     → (out : List (ℕ × ℕ))
     → flat_map (decided_told servers) (map (decision_word k txn d) out)
-        ≡ decided_for x.session (flat_map (λ (n : ℕ × ℕ). told_effects d n.0) out)
+    ≡ decided_for x.session (flat_map (λ (n : ℕ × ℕ). told_effects d n.0) out)
 words_decided k servers txn d x e [] = refl
 words_decided k servers txn d x e (n ∷ ns) =
     ap₂ (λ ys zs. ys ++ zs) (ap (λ o. decided_at o (told_effects d n.0)) e) (words_decided k servers txn d x e ns)
     ∙ sym (map-append (λ (y : Effect). let z : Decided = record { by = x.session; effect = y } in z) (told_effects d n.0)
-        (flat_map (λ (n : ℕ × ℕ). told_effects d n.0) ns))
+    (flat_map (λ (n : ℕ × ℕ). told_effects d n.0) ns))
 
 module _ (k skew greatest : ℕ) (c : Cluster) (s : Server) (at : slice_get c.servers k ≡ Some s) (h : ClusterStands skew greatest c)
     (l : Leading) (there : In l s.leading) (d : Decision) where
@@ -125,7 +125,7 @@ module _ (k skew greatest : ℕ) (c : Cluster) (s : Server) (at : slice_get c.se
   parcels_then =
       parcels-append c.in_flight (in_flight_from k (tells t d out ++ ends_now out by (end_of_decision d)))
       ∙ ap (λ ps. parcels_of c.in_flight ++ ps)
-          (none_told k t d out (ends_now out by (end_of_decision d)) (none_now k out by (end_of_decision d)))
+      (none_told k t d out (ends_now out by (end_of_decision d)) (none_now k out by (end_of_decision d)))
       ∙ append-nil (parcels_of c.in_flight)
 
   pub led_there : led_in c.servers t ≡ Some l
@@ -160,7 +160,7 @@ module _ (k skew greatest : ℕ) (c : Cluster) (s : Server) (at : slice_get c.se
 
   new_told : (o : List (ℕ × ℕ)) → out ≡ o
       → flat_map (decided_told after.servers) (map (decision_word k t d) o)
-          ≡ decided_for by (flat_map (λ (n : ℕ × ℕ). told_effects d n.0) o)
+      ≡ decided_for by (flat_map (λ (n : ℕ × ℕ). told_effects d n.0) o)
   new_told [] e = refl
   new_told (n ∷ ns) e =
       words_decided k after.servers t d ended
@@ -173,9 +173,9 @@ module _ (k skew greatest : ℕ) (c : Cluster) (s : Server) (at : slice_get c.se
       ∙ ap (flat_map (decided_told after.servers)) telling_then
       ∙ flat_map-append (decided_told after.servers) (telling_of c.in_flight) (map (decision_word k t d) out)
       ∙ ap₂ (λ ys zs. ys ++ zs)
-          (flat_alike (decided_told after.servers) (decided_told c.servers) (telling_of c.in_flight) old_same
-              ∙ sym (told_is c.servers c.in_flight))
-          (new_told out refl)
+      (flat_alike (decided_told after.servers) (decided_told c.servers) (telling_of c.in_flight) old_same
+      ∙ sym (told_is c.servers c.in_flight))
+      (new_told out refl)
 
   -- ## Rows
 

@@ -98,7 +98,7 @@ module _ (m : RecordMap) where
           ap parent_of (node_there (records_after_all m (link ∷ cut ∷ place ∷ [])) file)
           ∙ ap parent_of (node_changed two place)
           ∙ moved_place file ddir dname (node_of (get two file)) (sdir, sname)
-              (sym (ap parent_of (node_there two file)) ∙ place_past m place (link ∷ cut ∷ []) off ∙ was)
+          (sym (ap parent_of (node_there two file)) ∙ place_past m place (link ∷ cut ∷ []) off ∙ was)
 
       put_moving : parent_of (get nodes file) ≡ Some (sdir, sname) → ArePut (link ∷ cut ∷ place ∷ [])
       put_moving was e (inl q) = subst (IsPutIn _) (sym q) tt

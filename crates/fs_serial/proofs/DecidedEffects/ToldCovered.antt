@@ -59,7 +59,7 @@ few_on (op.Rename sdir sname ddir dname) file at off apart =
   where
     two : (a b : Bool) → same sdir at ≡ a → same file at ≡ b
         → length (cond a (SetChild sdir sname None ∷ cond b (SetParent file ddir dname ∷ []) [])
-            (cond b (SetParent file ddir dname ∷ []) [])) ≤ 1
+        (cond b (SetParent file ddir dname ∷ []) [])) ≤ 1
     two true true p q =
         let one : file ≡ sdir = same_is file at q ∙ sym (same_is sdir at p) in
         let wrong : true ≡ false = sym (same_self sdir) ∙ ap (λ x. same x sdir) (sym one) ∙ apart.1 in
@@ -143,8 +143,10 @@ module _ (uses : List Use) (at : List ℕ) where
           decided = tt;
           covered = (
             use_at (Names file) Shared (c (need.Lease (Names file) Shared) (asks_names known given dir name file w f)) here,
-            (use_at (Life file) Exclusive (c (need.Lease (Life file) Exclusive) m.life) here,
-            use_at (Own file) Exclusive (c (need.Lease (Own file) Exclusive) (asks_own known given dir name file w f)) here),
+            (
+              use_at (Life file) Exclusive (c (need.Lease (Life file) Exclusive) m.life) here,
+              use_at (Own file) Exclusive (c (need.Lease (Own file) Exclusive) (asks_own known given dir name file w f)) here,
+            ),
           );
           placed = tt;
         })

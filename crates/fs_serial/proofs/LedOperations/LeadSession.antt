@@ -199,8 +199,8 @@ module _ (skew greatest : ℕ) (s : Sight) (by : Session) (replied : List Item) 
         told = λ x i e. elim (holds.telling m held x i e) as (λ _. value_of s.records by k.serving.lease.field ≡ value.Life (Some Dir)) [
           | inl gone ↦ absurd (subst (IsOfGone s.records s.journal) on gone)
           | inr told ↦
-            let is : m.base ≡ value.Life kind = told ∙ ap (value_of s.records by) on in
-            ap (value_of s.records by) on ∙ ap value.Life (q.dir kind (seen ∙ ap Some is))
+              let is : m.base ≡ value.Life kind = told ∙ ap (value_of s.records by) on in
+              ap (value_of s.records by) on ∙ ap value.Life (q.dir kind (seen ∙ ap Some is))
         ];
       }
 

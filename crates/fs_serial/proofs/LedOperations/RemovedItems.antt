@@ -81,10 +81,10 @@ module _ (known : Known) (given : Given) (dir name file : List ℕ)
       let v = known (Child dir name) Exclusive in
       let o = no_dir (life_told (known (Life dir) Shared)) in
       let in_deleted : In x (items (ask_deleted (Some (Some file)))) =
-          stands_behind life x (is_some (known (Life file) Exclusive)) (walk_along known given (ask_empty file)) i in
+      stands_behind life x (is_some (known (Life file) Exclusive)) (walk_along known given (ask_empty file)) i in
       let in_delete : In x (items (ask_delete dir name)) =
-          stands_behind child x (is_some v) (walk_along known given (ask_deleted (child_told v)))
-          (subst (λ c. In x (items (ask_deleted c))) (sym is) in_deleted) in
+      stands_behind child x (is_some v) (walk_along known given (ask_deleted (child_told v)))
+      (subst (λ c. In x (items (ask_deleted c))) (sym is) in_deleted) in
       stands_behind home x (is_some (known (Life dir) Shared)) (walk_along known given (unless o (ask_delete dir name)))
       (subst (λ q. In x (items (unless q (ask_delete dir name)))) (sym past_home.0) in_delete)
 

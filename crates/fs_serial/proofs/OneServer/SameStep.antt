@@ -182,9 +182,9 @@ module _ (k : ℕ) (c : Cluster) (s : Server) (places : PlacesHold c) (b : IsBet
         let lives : is_directory m dir ≡ true = ap (λ o. is_dir (kind_of (node_of o))) at ∙ is in
         let decided = all_decided ds (with_all s c) c.journal f.all in
         let stays : In (RemoveNode dir) es → ⊥ = λ i.
-            let q = going_of ds (with_all s c) c.journal f.all dir i in
-            let wrong : false ≡ true = sym (q.1.1.file).1 ∙ lives in
-            absurd (cc) in
+        let q = going_of ds (with_all s c) c.journal f.all dir i in
+        let wrong : false ≡ true = sym (q.1.1.file).1 ∙ lives in
+        absurd (cc) in
         child_here dir n (λ made. w.all.reserved.made_before dir n (child dir n)
         (ap is_dir (kind_held m es dir decided stays) ∙ lives)
         (subst (λ k. k ≤ n) (sym (next_held m es dir decided stays lives)) (subst (λ o. next_of o ≤ n) (sym at) next))

@@ -31,7 +31,7 @@ module _ (k : ℕ) (c : Cluster) (s t : Server) (at : slice_get c.servers k ≡ 
   other_files : (e : List ℕ × Record) → In e (records_of_servers b.front) → AreOther e.0 (entries t.records)
   other_files e i z j q =
       let there : is_some (get (records_after_all s.records es) z.0) ≡ true =
-          subst (λ m. is_some (get m z.0) ≡ true) then (entry_has t.records z j) in
+      subst (λ m. is_some (get m z.0) ≡ true) then (entry_has t.records z j) in
       let here : is_mine s z.0 ≡ true = effects_apart rest s apart es on z.0 there in
       let off : is_mine s e.0 ≡ false = apart.records e (In-front e (records_of_servers b.front) _ i) in
       let wrong : true ≡ false = sym here ∙ ap (is_mine s) q ∙ off in

@@ -80,6 +80,6 @@ module _ (k : ℕ) (c : Cluster) (s t : Server) (at : slice_get c.servers k ≡ 
       ∙ rows_joined b.front b.back (parcels_of c.in_flight) t ordered other
       ∙ ap (with_rows rest.rows) (rows ∙ sym (map_alike (at_home s f) f s.rows (λ r i. home_row s f r (apart.own_rows r i))))
       ∙ ap (λ rs. with_rows rs (map (at_home s f) s.rows))
-          (sym (map_alike (at_home s f) (λ r. r) rest.rows (λ r i. other_row s f r (apart.rows r i)) ∙ map_itself rest.rows))
+      (sym (map_alike (at_home s f) (λ r. r) rest.rows (λ r i. other_row s f r (apart.rows r i)) ∙ map_itself rest.rows))
       ∙ sym (map_with_rows (at_home s f) (same_number s (at_home s f) (home_relock s f is)) rest.rows s.rows)
       ∙ ap (λ (u : Server). map (at_home s f) u.rows) (sym (all_here c k s places b))

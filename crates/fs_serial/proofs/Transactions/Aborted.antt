@@ -207,9 +207,9 @@ module _ (k skew greatest : ℕ) (c : Cluster) (s : Server) (at : slice_get c.se
       of_part : IsOf (said_at s) t r.session → r.session ≡ by
       of_part o =
           let its : session_of c.servers t ≡ Some by =
-              ap (λ z. session_by z (ended_in c.servers t)) (decides.led_there k skew greatest c s at h l there d) in
+          ap (λ z. session_by z (ended_in c.servers t)) (decides.led_there k skew greatest c s at h l there d) in
           let same : Some o.agreed.wanted.session ≡ Some by =
-              sym (said_session c h.led s k at me o.agreed o.among) ∙ ap (session_of c.servers) o.its ∙ its in
+          sym (said_session c h.led s k at me o.agreed o.among) ∙ ap (session_of c.servers) o.its ∙ its in
           let whose : o.agreed.wanted.session ≡ by = cc in
           sym o.session ∙ whose
 
@@ -260,7 +260,7 @@ module _ (k skew greatest : ℕ) (c : Cluster) (s : Server) (at : slice_get c.se
       let records : RecordMap = (with_all s c).records in
       let held : RecordMap = held_with (effects_in (decided_in c)) records in
       stands_then (rows_in c) (map change (rows_in c)) records records (nodes_of held) (nodes_of held) c.journal c.journal x
-          (locks_stay x i) (place_same (nodes_of held) x.effect) (going_same records records x.effect (λ f. refl)) (λ id made. made) (view.1.all.stand x i)
+      (locks_stay x i) (place_same (nodes_of held) x.effect) (going_same records records x.effect (λ f. refl)) (λ id made. made) (view.1.all.stand x i)
 
   owed_still : (x : Decided) → In x (decided_in c) → due (session.ends_then k skew greatest c s at h l there d x.by).down ≡ [] → ⊥
   owed_still x i none = view.1.owed x i
@@ -290,13 +290,12 @@ module _ (k skew greatest : ℕ) (c : Cluster) (s : Server) (at : slice_get c.se
   records_still =
       ap (records_of_all after.servers) (decides.parcels_then k skew greatest c s at h l there d)
       ∙ ap (with_parcels (parcels_of c.in_flight))
-          (same_records c.servers k s server_then empty at (ap (records_after_all s.records) (none_told e (own_parts s.me l))))
+      (same_records c.servers k s server_then empty at (ap (records_after_all s.records) (none_told e (own_parts s.me l))))
 
   pub aborted_stands : WorldStands greatest (world_meanwhile server_then after)
   aborted_stands =
       let rows : rows_in after ≡ map change (rows_in c) = decides.rows_are k skew greatest c s at h l there d in
-      let journal : c.journal ++ [] ≡ c.journal = append-nil c.journal in
-      (
+      let journal : c.journal ++ [] ≡ c.journal = append-nil c.journal in (
         alike_holds greatest relocked (world_meanwhile server_then after) (record {
           rows = rows;
           records = ap₂ (λ (ds : List Decided) (m : RecordMap). held_with (effects_in ds) m) decided_still records_still;
@@ -316,5 +315,5 @@ pub abort_stands : (k skew greatest : ℕ) (c : Cluster) (s : Server) → slice_
 abort_stands k skew greatest c s at h l led e is =
     let there : In l s.leading = (found (λ (z : Leading). same_txn z.leader.txn l.leader.txn) s.leading l led).0 in
     subst (λ (d : Decision). WorldStands greatest (world_meanwhile (decides.y k skew greatest c s at h l there d)
-        (decides.after k skew greatest c s at h l there d))) (sym is)
+    (decides.after k skew greatest c s at h l there d))) (sym is)
     (aborted_stands k skew greatest c s at h l there e (abort_frees l.leader e is))

@@ -60,7 +60,7 @@ now_words servers (x ∷ xs) by e = no_words servers
 abort_on : (mine : List ℕ → Bool) (me : ℕ) (l : Leading) (d : Decision) (e : LedEnd) → d ≡ Abort e → AreOn mine (own_effects me l d)
 abort_on mine me l d e is x i =
     let q = In_some (λ (n : ℕ × ℕ). told_effects (Abort e) n.0) x (own_parts me l)
-        (subst (λ z. In x (own_effects me l z)) is i) in
+    (subst (λ z. In x (own_effects me l z)) is i) in
     absurd q.1.1
 
 module _ (k : ℕ) (c : Cluster) (s : Server) (at : slice_get c.servers k ≡ Some s) (h : PlacesHold c) (led : LedHolds c) where
@@ -74,9 +74,9 @@ module _ (k : ℕ) (c : Cluster) (s : Server) (at : slice_get c.servers k ≡ So
         let key = key_of m.txn m.number in
         let w : Told = told_with from k (key, Decide m.effects) in
         let i : In w (telling_of c.in_flight) = (found (is_between from k) (telling_of c.in_flight) w
-            (heard from k (peer.Decide m) (key, Decide m.effects) c.in_flight refl comes).first).0 in
+        (heard from k (peer.Decide m) (key, Decide m.effects) c.in_flight refl comes).first).0 in
         subst (λ j. In (let x : Told = record { from = j; to = k; key = key; word = Decide m.effects } in x) (telling_of c.in_flight))
-            (decide_here k from c s at led m comes).leader i
+        (decide_here k from c s at led m comes).leader i
 
   -- what a part is told is of files that its server manages
   pub told_here : (from : ℕ) (m : ToDecide) → IsThere k (FromPeer from (peer.Decide m)) c → AreOn (is_mine s) m.effects

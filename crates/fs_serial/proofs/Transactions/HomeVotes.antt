@@ -111,10 +111,10 @@ module _ (k skew greatest : ℕ) (c : Cluster) (s : Server) (at : slice_get c.se
       of_record None e =
           let f = (h.parts s here).1 in
           let bare : node_of (get (records_of_all c.servers (parcels_of c.in_flight)) file) ≡ None =
-              ap node_of (record_at_home k c s at h.places file mine ∙ e) in
+          ap node_of (record_at_home k c s at h.places file mine ∙ e) in
           let gone : node_of (get now.records file) ≡ None =
-              none_all (records_of_all c.servers (parcels_of c.in_flight)) (effects_in (decided_in c)) file
-              (all_decided (decided_in c) (with_all s c) c.journal f.all) bare in
+          none_all (records_of_all c.servers (parcels_of c.in_flight)) (effects_in (decided_in c)) file
+          (all_decided (decided_in c) (with_all s c) c.journal f.all) bare in
           let wrong : None ≡ Some Dir = sym (ap kind_of gone) ∙ lives in
           absurd (cc wrong)
 
@@ -157,10 +157,10 @@ module _ (k skew greatest : ℕ) (c : Cluster) (s : Server) (at : slice_get c.se
         let v = voted_yes s by p said in
         let mine : is_mine s home ≡ true = ap (λ (x : Part). is_mine s x.file) its_part ∙ v.0 in
         let r : Stands (with_all s c).rows by used =
-            stand_in c s by p.uses here (all_found s.rows by p.uses v.1) used used_there in
+        stand_in c s by p.uses here (all_found s.rows by p.uses v.1) used used_there in
         let told : value_of now.records by used.field ≡ value.Life (Some Dir) = led_stands.lives.told r.row r.stands r.number in
         let life : value.Life (kind_of (node_of (get now.records home))) ≡ value.Life (Some Dir) =
-            sym (ap (value_of now.records by) on_home) ∙ told in
+        sym (ap (value_of now.records by) on_home) ∙ told in
         lives_here home mine (cc)
 
     over_dirs : (o : Op) (r : Reply) → is_led o r ≡ true → changes_paths s o ≡ false
@@ -204,7 +204,7 @@ begun_plain k skew greatest c s at h by m d there led accepted =
     let p : Part = part_at Plain m.op m.file m.uses (home_of m.op) in
     let votes = (round_of by m s).votes in
     let first : slice_get votes 0 ≡ Some (Some (vote_here s by p)) =
-        home_vote (txn_of s) 0 by (parts_in m) (first_round s) p (first_part m) refl (none_refuses s m accepted).0 in
+    home_vote (txn_of s) 0 by (parts_in m) (first_round s) p (first_part m) refl (none_refuses s m accepted).0 in
     elim (home_votes k skew greatest c s at h by m d p there led (first_part m) accepted) as
     (λ _. IsPlain d (leader_with (txn_of s) by m votes)) [
       | inl e ↦ inl e

@@ -145,7 +145,7 @@ module _ (skew greatest k : ℕ) (c : Cluster) (s : Server) (at : slice_get c.se
       let e : ServerEvent = event.FromClient by m in
       let big : Stepped = event_step e (with_all s c) in
       stands_after skew greatest k c s at h e there (event_step e s) big
-          (begun_in greatest k c s e at h.places (decided_in c) (ends_in c) now.0 now.1 (coming by m there) other (λ z. absurd (cc)))
+      (begun_in greatest k c s e at h.places (decided_in c) (ends_in c) now.0 now.1 (coming by m there) other (λ z. absurd (cc)))
       (event_leaves k s c e there (none_of_led by m other) (unlocked by m there)) (answers_due e there)
       (subst (λ replied. WorldStands greatest (record {
         server = big.server;
@@ -167,8 +167,8 @@ module _ (skew greatest k : ℕ) (c : Cluster) (s : Server) (at : slice_get c.se
   recall_event field =
       let e : ServerEvent = event.Recall field in
       stands_after skew greatest k c s at h e tt (event_step e s) (event_step e (with_all s c))
-          (begun_in greatest k c s e at h.places (decided_in c) (ends_in c) now.0 now.1 tt tt (λ z. absurd (cc)))
-          (event_leaves k s c e tt tt tt) (answers_due e tt) (begun_keeps greatest w e now.1 tt tt now.0)
+      (begun_in greatest k c s e at h.places (decided_in c) (ends_in c) now.0 now.1 tt tt (λ z. absurd (cc)))
+      (event_leaves k s c e tt tt tt) (answers_due e tt) (begun_keeps greatest w e now.1 tt tt now.0)
 
   -- ## Where all rows and records stay
 
@@ -251,8 +251,8 @@ module _ (skew greatest k : ℕ) (c : Cluster) (s : Server) (at : slice_get c.se
       let e : ServerEvent = event.Move prefix to in
       let same = move_same k c s prefix to at h.places in
       moved_stands e there (event_step e s) (move_quiet (move_refusal s.records s.rows s.map s.me prefix to None) prefix to s)
-          (event_leaves k s c e there tt tt) refl (λ y. refl) same.0 same.1
-          (moved_places k c s prefix to at h.places now.1.all.records lives_made there) (answers_due e there)
+      (event_leaves k s c e there tt tt) refl (λ y. refl) same.0 same.1
+      (moved_places k c s prefix to at h.places now.1.all.records lives_made there) (answers_due e there)
 
   -- ## A parcel that comes
 
@@ -278,11 +278,11 @@ module _ (skew greatest k : ℕ) (c : Cluster) (s : Server) (at : slice_get c.se
       let is : x ≡ event_step e s = ap (λ b. parcel_at b p s) (sym fits) in
       let same = arriving_same k from c s p at h.places there in
       subst (λ (y : Stepped). ClusterStands skew greatest (after_step k e y c)) is
-          (moved_stands e there x (install_quiet p s)
-          (subst (λ (y : Stepped). LeavesLed k e s y c) (sym is) (event_leaves k s c e there refl (parcel_unlocked from p there)))
-          refl (λ y. refl) same.0 same.1 (arriving_places k from c s p at h.places there)
-          (subst (λ (y : Stepped). AreDue k y.out.send (λ z. asked_server (without_question k e c.lines z).client.exchange)) (sym is)
-          (answers_due e there)))
+      (moved_stands e there x (install_quiet p s)
+      (subst (λ (y : Stepped). LeavesLed k e s y c) (sym is) (event_leaves k s c e there refl (parcel_unlocked from p there)))
+      refl (λ y. refl) same.0 same.1 (arriving_places k from c s p at h.places there)
+      (subst (λ (y : Stepped). AreDue k y.out.send (λ z. asked_server (without_question k e c.lines z).client.exchange)) (sym is)
+      (answers_due e there)))
 
   -- ## All of them
 

@@ -62,10 +62,10 @@ module _ (skew greatest now k : ℕ) (s : Server) (c : Cluster) (at : slice_get 
   seen_then =
       let me : s.me ≡ k = h.places.numbered k s at in
       let decided : decided_in then ≡ decided_in c =
-          decided_same c.servers (slice_set c.servers k (begun now s)) c.in_flight c.in_flight (ended_set c.servers k s (begun now s) at refl)
-          refl in
+      decided_same c.servers (slice_set c.servers k (begun now s)) c.in_flight c.in_flight (ended_set c.servers k s (begun now s) at refl)
+      refl in
       let records : records_of_all then.servers (parcels_of c.in_flight) ≡ records_of_all c.servers (parcels_of c.in_flight) =
-          ap (with_parcels (parcels_of c.in_flight)) (same_records c.servers k s (begun now s) empty at refl) in
+      ap (with_parcels (parcels_of c.in_flight)) (same_records c.servers k s (begun now s) empty at refl) in
       stands_alike greatest risen (world_meanwhile (begun now s) then) (record {
         rows = rows_are greatest now k s c at before h.places;
         records = ap₂ (λ (ds : List Decided) (m : RecordMap). held_with (effects_in ds) m) decided records;

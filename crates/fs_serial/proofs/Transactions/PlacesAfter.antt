@@ -227,8 +227,8 @@ module _ (k : ℕ) (c : Cluster) (s t : Server) (at : slice_get c.servers k ≡ 
       })
   places_stepped left ms more replied lines still among words =
       let same : parcels_of (left ++ in_flight_from k ms) ≡ parcels =
-          parcels-append left (in_flight_from k ms) ∙ ap₂ (λ (x y : List Parcel). x ++ y) still (none_handed k (length c.servers) ms words)
-          ∙ append-nil parcels in
+      parcels-append left (in_flight_from k ms) ∙ ap₂ (λ (x y : List Parcel). x ++ y) still (none_handed k (length c.servers) ms words)
+      ∙ append-nil parcels in
       record {
         one = λ id. ap₂ (λ ss ps. places_for id ss ps) set same
             ∙ one_same b.front b.back s t q.me q.owners parcels
@@ -261,9 +261,9 @@ moved_names : (servers : ℕ) (owners : Owners) (id : List ℕ) → server_of ow
     → VoteNames servers (moved_to (longest owners id))
 moved_names servers owners id h = elim (longest owners id) as
     (λ o. unwrap_or (option_map (λ e. e.1) o) 0 < servers → VoteNames servers (moved_to o)) [
-  | None ↦ λ g. g
-  | Some e ↦ λ g. g
-] h
+      | None ↦ λ g. g
+      | Some e ↦ λ g. g
+    ] h
 
 by_names : (servers : ℕ) (u : Option Use) (now : ℕ) → VoteNames servers (vote_by u None now)
 by_names servers None now = tt
@@ -273,9 +273,9 @@ pub vote_names : (servers : ℕ) (s : Server) (by : Session) (p : Part) → ((id
     → VoteNames servers (vote_here s by p)
 vote_names servers s by p h = elim (is_mine s p.file) as
     (λ b. VoteNames servers (cond b (vote_by (first_gone s.rows by p.uses) None s.last) (moved_to (longest s.map p.file)))) [
-  | true ↦ by_names servers (first_gone s.rows by p.uses) s.last
-  | false ↦ moved_names servers s.map p.file (h p.file)
-]
+      | true ↦ by_names servers (first_gone s.rows by p.uses) s.last
+      | false ↦ moved_names servers s.map p.file (h p.file)
+    ]
 
 -- ## A word comes
 

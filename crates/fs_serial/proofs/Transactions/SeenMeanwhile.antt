@@ -45,12 +45,12 @@ meanwhile_answered k to a ss lines x = elim (to.0 == x.0) as
     (λ b. ends_with x ss (let l : Lines = cond b (record (lines x) { down = (lines x).down ++ (k, a) ∷ [] }) (lines x) in l)
     ≡ cond b (let e : Ends = record (ends_with x ss (lines x)) { down = (ends_with x ss (lines x)).down ++ a ∷ [] } in e)
     (ends_with x ss (lines x))) [
-  | true ↦ ap (λ d. let e : Ends =
-      record { client = (lines x).client; up = messages (lines x).up ++ taken_leads x (lines x).client.led ss; down = d } in e)
-      (ap (λ ms. owed_to x ss ++ ms) (messages_append (lines x).down ((k, a) ∷ []))
+      | true ↦ ap (λ d. let e : Ends =
+          record { client = (lines x).client; up = messages (lines x).up ++ taken_leads x (lines x).client.led ss; down = d } in e)
+          (ap (λ ms. owed_to x ss ++ ms) (messages_append (lines x).down ((k, a) ∷ []))
           ∙ sym (append_assoc (owed_to x ss) (messages (lines x).down) (a ∷ [])))
-  | false ↦ refl
-]
+      | false ↦ refl
+    ]
 
 pub meanwhile_sent : (k : ℕ) (ms : List (Peer × Msg)) (ss : List Server) (lines : Session → Lines) (x : Session)
     → ends_with x ss (with_sent k ms lines x) ≡ world.with_sent ms (λ y. ends_with y ss (lines y)) x
@@ -98,7 +98,7 @@ module _ (k : ℕ) (by : Session) (m : ClientMsg) (ss : List Server) (lines : Se
   asked_taken x =
       let l : Lines = record (lines by) { up = without_first (is_with k) (lines by).up } in
       elim (by.0 == x.0) as (λ b. (by.0 == x.0) ≡ b → ends_with x ss (let z : Lines = cond b l (lines x) in z)
-          ≡ cond b (let e : Ends = record (ends_with x ss (lines x)) { up = [] } in e) (ends_with x ss (lines x))) [
+      ≡ cond b (let e : Ends = record (ends_with x ss (lines x)) { up = [] } in e) (ends_with x ss (lines x))) [
         | true ↦ λ t. subst (λ y. ends_with y ss l ≡ (let e : Ends = record (ends_with y ss (lines y)) { up = [] } in e))
             (one_session by x t)
             (ap (λ u. let e : Ends =
@@ -147,4 +147,4 @@ module _ (k : ℕ) (e : ServerEvent) (s : Server) (x : Stepped) (c : Cluster) (a
       decided_same c.servers (slice_set c.servers k x.server) c.in_flight (without_arrived k e c.in_flight ++ in_flight_from k x.out.send)
       (ended_set c.servers k s x.server at q.ending)
       (telling_append (without_arrived k e c.in_flight) (in_flight_from k x.out.send) ∙ ap₂ (λ ms ns. ms ++ ns) q.taken q.words
-          ∙ append-nil (telling_of c.in_flight))
+      ∙ append-nil (telling_of c.in_flight))

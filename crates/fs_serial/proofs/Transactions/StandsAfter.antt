@@ -56,7 +56,7 @@ pub all_meanwhile : (skew greatest k : ℕ) (c : Cluster) (s : Server) → slice
 all_meanwhile skew greatest k c s at places skewed clocks h t i =
     let q = In_at c.servers t i in
     other_meanwhile greatest c s t k q.place at (places.numbered k s at) q.is (places.numbered q.place t q.is)
-        (skewed t i ∙ sym (skewed s (In-got c.servers k s at))) (clocks t i) h
+    (skewed t i ∙ sym (skewed s (In-got c.servers k s at))) (clocks t i) h
 
 module _ (skew greatest k : ℕ) (c : Cluster) (s : Server) (at : slice_get c.servers k ≡ Some s) (h : ClusterStands skew greatest c) where
   pub view : WorldStands greatest (world_meanwhile s c)
@@ -75,15 +75,15 @@ module _ (skew greatest k : ℕ) (c : Cluster) (s : Server) (at : slice_get c.se
   all_stand then t set same clock places led seen addressed =
       let there : slice_get then.servers k ≡ Some t = ap (λ ss. slice_get ss k) set ∙ get_here c.servers k s t at in
       let skewed : (u : Server) → In u then.servers → u.skew ≡ skew = λ u i.
-          elim (In_set c.servers k t u (subst (In u) set i)) as (λ _. u.skew ≡ skew) [
-            | inl q ↦ ap (λ (z : Server). z.skew) q ∙ same ∙ h.skewed s (In-got c.servers k s at)
-            | inr j ↦ h.skewed u j
-          ] in
+      elim (In_set c.servers k t u (subst (In u) set i)) as (λ _. u.skew ≡ skew) [
+        | inl q ↦ ap (λ (z : Server). z.skew) q ∙ same ∙ h.skewed s (In-got c.servers k s at)
+        | inr j ↦ h.skewed u j
+      ] in
       let clocks : (u : Server) → In u then.servers → u.last ≤ greatest = λ u i.
-          elim (In_set c.servers k t u (subst (In u) set i)) as (λ _. u.last ≤ greatest) [
-            | inl q ↦ let was : u.last ≡ t.last = ap (λ (z : Server). z.last) q in omega (arith, was, clock)
-            | inr j ↦ (h.parts u j).0.clock
-          ] in
+      elim (In_set c.servers k t u (subst (In u) set i)) as (λ _. u.last ≤ greatest) [
+        | inl q ↦ let was : u.last ≡ t.last = ap (λ (z : Server). z.last) q in omega (arith, was, clock)
+        | inr j ↦ (h.parts u j).0.clock
+      ] in
       record {
         parts = all_meanwhile skew greatest k then t there places skewed clocks seen;
         skewed = skewed;

@@ -154,7 +154,7 @@ module _ (k skew greatest : ℕ) (c : Cluster) (s : Server) (at : slice_get c.se
   asks_no_more : messages (c.lines by).up ≡ []
   asks_no_more =
       let some : 1 ≤ length (taken_leads by (c.lines by).client.led c.servers) =
-          some_there asks (taken_leads by (c.lines by).client.led c.servers) taken_some in
+      some_there asks (taken_leads by (c.lines by).client.led c.servers) taken_some in
       none_long (messages (c.lines by).up) (omega (arith, counted, some))
 
   -- nothing is owed to it
@@ -176,7 +176,7 @@ module _ (k skew greatest : ℕ) (c : Cluster) (s : Server) (at : slice_get c.se
       by_test true e =
           let its : z.leader.session ≡ by = one_session z.leader.session by e in
           let same : z.leader.txn ≡ t = one_txn c h.led by one z.leader.txn t (leads_its by c.servers s s_in z i its)
-              (leads_its by c.servers s s_in l there refl) in
+          (leads_its by c.servers s s_in l there refl) in
           let wrong : true ≡ false = sym (txn_itself t) ∙ ap (λ u. same_txn u t) (sym same) ∙ off in
           absurd (cc wrong)
       by_test false e = refl
@@ -188,7 +188,7 @@ module _ (k skew greatest : ℕ) (c : Cluster) (s : Server) (at : slice_get c.se
   taken_gone =
       let some : 1 ≤ length (taken_at by (Some m) s) = some_there asks (taken_at by (Some m) s) taken_here in
       let all : length (taken_leads by (c.lines by).client.led c.servers) ≡ length (taken_leads by (Some m) c.servers) =
-          ap (λ o. length (taken_leads by o c.servers)) led_is in
+      ap (λ o. length (taken_leads by o c.servers)) led_is in
       ap (λ o. taken_leads by o servers) led_is
       ∙ each_alone (taken_at by (Some m)) c.servers k s x.server at (omega (arith, counted, some, all))
       ∙ ap (λ (ls : List Leading). flat_map (λ (z : Leading). question_of (Some m)) ls) none_left
@@ -238,7 +238,7 @@ module _ (k skew greatest : ℕ) (c : Cluster) (s : Server) (at : slice_get c.se
   owed_more : (y : Session) → owed_at y x.server ≡ owed_at y s ++ owed_new y waits
   owed_more y =
       ap (λ (es : List Ending). map (λ (z : Ending). answer.Led z.end) (filter (λ (z : Ending). z.session.0 == y.0) (es ++ fresh waits)))
-          without_same
+      without_same
       ∙ ap (map (λ (z : Ending). answer.Led z.end)) (filter-append (λ (z : Ending). z.session.0 == y.0) s.ending (fresh waits))
       ∙ map-append (λ (z : Ending). answer.Led z.end) (filter (λ (z : Ending). z.session.0 == y.0) s.ending)
       (filter (λ (z : Ending). z.session.0 == y.0) (fresh waits))
@@ -276,7 +276,7 @@ module _ (k skew greatest : ℕ) (c : Cluster) (s : Server) (at : slice_get c.se
       → held by ≡ (let z : Ends = record { client = (c.lines by).client; up = []; down = cond b (its_end ∷ []) [] ++ heard } in z)
   its_held b e =
       ap₂ (λ (us : List ClientMsg) (os : List Answer). let z : Ends =
-          record { client = (c.lines by).client; up = us; down = os ++ heard } in z)
+      record { client = (c.lines by).client; up = us; down = os ++ heard } in z)
       (ap₂ (λ (us : List ClientMsg) (ts : List ClientMsg). us ++ ts) asks_no_more taken_gone) (its_owed b e)
 
   others_held : (y : Session) → (by.0 == y.0) ≡ false → held y ≡ ends_in c y
@@ -307,9 +307,9 @@ module _ (k skew greatest : ℕ) (c : Cluster) (s : Server) (at : slice_get c.se
       then_is by
       ∙ ap (λ ns. world.with_sent (ends_now ns by (end_of_decision d)) held by) none
       ∙ ap (λ b. let z : Ends = cond b (let w : Ends = record (held by) { down = (held by).down ++ its_end ∷ [] } in w) (held by) in z)
-          (itself by.0)
+      (itself by.0)
       ∙ ap (λ (z : Ends). let w : Ends = record z { down = z.down ++ its_end ∷ [] } in w)
-          (its_held false (ap (λ (ns : List (ℕ × ℕ)). is_some (slice_get ns 0)) none))
+      (its_held false (ap (λ (ns : List (ℕ × ℕ)). is_some (slice_get ns 0)) none))
       ∙ ap (λ os. let w : Ends = record { client = (c.lines by).client; up = []; down = os ++ its_end ∷ [] } in w) (sym its_down)
       ∙ sym (own_then by its_end (ends_in c))
 

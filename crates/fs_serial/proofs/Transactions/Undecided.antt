@@ -51,11 +51,11 @@ module _ (skew greatest : ℕ) (c : Cluster) (s : Server) (i : In s c.servers) (
       let test = λ (m : Leading). m.leader.session.0 == by.0 in
       let kept : In l (filter test t.leading) = kept_in test l t.leading among (ap (λ (z : Session). z.0 == by.0) own ∙ itself by.0) in
       let taken : In (Lead (lead_of d)) (taken_at by (Some d) t) =
-          In_all (λ (m : Leading). question_of (Some d)) (Lead (lead_of d)) l (filter test t.leading) kept (inl refl) in
+      In_all (λ (m : Leading). question_of (Some d)) (Lead (lead_of d)) l (filter test t.leading) kept (inl refl) in
       let all : In (Lead (lead_of d)) (taken_leads by (Some d) c.servers) =
-          In_all (taken_at by (Some d)) (Lead (lead_of d)) t c.servers j taken in
+      In_all (taken_at by (Some d)) (Lead (lead_of d)) t c.servers j taken in
       one (lead_of d) (In-behind (Lead (lead_of d)) (messages (c.lines by).up) (taken_leads by e.client.led c.servers)
-          (subst (λ o. In (Lead (lead_of d)) (taken_leads by o c.servers)) (sym led) all))
+      (subst (λ o. In (Lead (lead_of d)) (taken_leads by o c.servers)) (sym led) all))
 
   module _ (m : ToLead) (up : e.up ≡ Lead m ∷ []) (d : TheLed) (led : (c.lines by).client.led ≡ Some d) where
     abbrev asked : IsToBeLed e.client.led m

@@ -57,8 +57,8 @@ module _ (k : ℕ) (c : Cluster) (s : Server) (at : slice_get c.servers k ≡ So
       let stage : stage_of_key c.servers key ≡ Counted n.1 Yes = stage_now n.0 ∙ ap₂ stage_by a v in
       let away : (n.1 == t.server) ≡ false = ap (λ j. n.1 == j) leads.own ∙ f in
       let q : IsStage key (held.parts key) (Counted n.1 Yes) (λ j. prepared_in c.servers j key) (told_of key (telling_of c.in_flight)) =
-          subst (λ z. IsStage key (held.parts key) z (λ j. prepared_in c.servers j key) (told_of key (telling_of c.in_flight))) stage
-          (held.stages key) in
+      subst (λ z. IsStage key (held.parts key) z (λ j. prepared_in c.servers j key) (told_of key (telling_of c.in_flight))) stage
+      (held.stages key) in
       alone key n.1 (held.parts key) (λ j. prepared_in c.servers j key) (n.1 == t.server) away q.1
     where
       alone : (key : Key) (place : ℕ) (w : Wanted) (prepared : ℕ → Option Wanted) (b : Bool) → b ≡ false
@@ -72,7 +72,7 @@ module _ (k : ℕ) (c : Cluster) (s : Server) (at : slice_get c.servers k ≡ So
   ready_there n v a f =
       let part = in_range l.leader.votes l.leader.parts n.0 (Some Yes) leads.votes v in
       let ready : HasReady c.servers (key_of t n.0) n.1 (held.parts (key_of t n.0)) =
-          has_ready c.servers (key_of t n.0) n.1 (held.parts (key_of t n.0)) (ready_at_place n v a f) in
+      has_ready c.servers (key_of t n.0) n.1 (held.parts (key_of t n.0)) (ready_at_place n v a f) in
       record {
         part = part.0;
         asked = part.1;
@@ -91,9 +91,9 @@ module _ (k : ℕ) (c : Cluster) (s : Server) (at : slice_get c.servers k ≡ So
       of_part : IsTold s.me n.0 (elsewhere s.me l) (slice_get l.leader.votes n.0) (slice_get l.at n.0) → IsReadyElsewhere c held.parts l n
       of_part (told p q v a f) = elim (subst (In n) q (kept_in (λ (x : ℕ × ℕ). x.0 == n.0) n (elsewhere s.me l) i (itself n.0))) as
           (λ _. IsReadyElsewhere c held.parts l n) [
-        | inl e ↦
-            let same : p ≡ n.1 = ap (λ (x : ℕ × ℕ). x.1) (sym e) in
-            ready_there n v (subst (λ j. slice_get l.at n.0 ≡ Some j) same a) (subst (λ j. (j == s.me) ≡ false) same f)
-        | inr z ↦ absurd z
-      ]
+            | inl e ↦
+                let same : p ≡ n.1 = ap (λ (x : ℕ × ℕ). x.1) (sym e) in
+                ready_there n v (subst (λ j. slice_get l.at n.0 ≡ Some j) same a) (subst (λ j. (j == s.me) ≡ false) same f)
+            | inr z ↦ absurd z
+          ]
       of_part (untold q f) = absurd (subst (In n) q (kept_in (λ (x : ℕ × ℕ). x.0 == n.0) n (elsewhere s.me l) i (itself n.0)))

@@ -72,7 +72,7 @@ pub voted_all : (l : Leader) → l.mode ≡ Plain → first_end l.votes ≡ None
 voted_all l mode none n v e =
     let r = reply_of l.op in
     let goes : unless_ended (first_end l.votes) (agreed l None) ≡ commit l r =
-        ap (λ o. unless_ended o (agreed l None)) none ∙ ap (λ m. cond (needs_path m l.op) (by_path l None) (commit l r)) mode in
+    ap (λ o. unless_ended o (agreed l None)) none ∙ ap (λ m. cond (needs_path m l.op) (by_path l None) (commit l r)) mode in
     e ∙ ap Some (commit_yes l None r _ goes v (In-got l.votes n v e))
 
 module _ (k skew greatest : ℕ) (c : Cluster) (s : Server) (at : slice_get c.servers k ≡ Some s) (h : ClusterStands skew greatest c)
