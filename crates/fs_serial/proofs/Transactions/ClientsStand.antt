@@ -146,7 +146,7 @@ module _ (c : Cluster) (by : Session) where
           by_sent None h = refl
           by_sent (Some m) h =
               let none : messages l.up ++ taken_for l.client.led ≡ [] =
-                  none_before new.client new.client.exchange (messages l.up ++ taken_for l.client.led) m.1 new.down h in
+              none_before new.client new.client.exchange (messages l.up ++ taken_for l.client.led) m.1 new.down h in
               let both = nothing_of (messages l.up) (taken_for l.client.led) none in
               ap (λ ms. ms ++ taken_for l.client.led) (messages_append l.up (m ∷ []))
               ∙ ap₂ (λ (ms : List ClientMsg) (ts : List ClientMsg). (ms ++ m.1 ∷ []) ++ ts) both.0 both.1
@@ -156,10 +156,10 @@ module _ (c : Cluster) (by : Session) where
       ends_planned y = elim (by.0 == y.0) as
           (λ b. (by.0 == y.0) ≡ b → ends_with y c.servers (let z : Lines = cond b then (c.lines y) in z)
           ≡ (let z : Ends = cond b new (ends_in c y) in z)) [
-        | true ↦ λ e. subst (λ z. ends_with z c.servers then ≡ new) (one_session by y e)
-            (ap (λ u. let z : Ends = record { client = committed p.ready l.client; up = u; down = its_owed ++ messages rest } in z) up_same)
-        | false ↦ λ e. refl
-      ] refl
+            | true ↦ λ e. subst (λ z. ends_with z c.servers then ≡ new) (one_session by y e)
+                (ap (λ u. let z : Ends = record { client = committed p.ready l.client; up = u; down = its_owed ++ messages rest } in z) up_same)
+            | false ↦ λ e. refl
+          ] refl
 
     module _ (skew greatest : ℕ) (h : ClusterStands skew greatest c) (few : (m : ℕ × Answer) → In m rest → In m l.down)
         (posted : IsPosted p) (waits : LeavesLedClient by c after.lines) (led : LedHolds after)
@@ -184,8 +184,8 @@ module _ (c : Cluster) (by : Session) where
       pub plan_stands : ClusterStands skew greatest after
       plan_stands =
           let own : IsAddressed then =
-              addressed_among p l rest (taken_for (committed p.ready l.client).led) its_owed few posted
-              (subst (λ us. OneExchange new.client new.client.exchange us new.down) (sym (up_same h.led waits one)) one) (h.addressed by) in
+          addressed_among p l rest (taken_for (committed p.ready l.client).led) its_owed few posted
+          (subst (λ us. OneExchange new.client new.client.exchange us new.down) (sym (up_same h.led waits one)) one) (h.addressed by) in
           record {
             parts = seen_then;
             skewed = h.skewed;
@@ -208,16 +208,18 @@ module _ (skew greatest : ℕ) (c : Cluster) (by : Session) (h : ClusterStands s
   pub turn_stands : (now : ℕ) → ClusterStands skew greatest (after_client by now Turns c)
   turn_stands now =
       plan_stands c by lines.down (turn_plan lines.client now) skew greatest h (λ m i. i) (turn_posted (begun now lines.client))
-          (client_waits by c few_one now Turns tt) (waiting_keeps_led by now Turns c h.led few_one tt)
-      (λ s i. (turn_keeps greatest now (world_meanwhile s c) by (h.parts s i).0,
-          client_fits now (world_meanwhile s c) by world.Turns tt tt (h.parts s i).1))
+      (client_waits by c few_one now Turns tt) (waiting_keeps_led by now Turns c h.led few_one tt)
+      (λ s i. (
+        turn_keeps greatest now (world_meanwhile s c) by (h.parts s i).0,
+        client_fits now (world_meanwhile s c) by world.Turns tt tt (h.parts s i).1,
+      ))
 
   pub does_stands : (now : ℕ) (o : Op) → is_called o ≡ true → greatest ≤ now + skew
       → ClusterStands skew greatest (after_client by now (Does o) c)
   does_stands now o called within =
       plan_stands c by lines.down (act_plan lines.client now o) skew greatest h (λ m i. i)
-          (act_posted lines.client.over o (begun now lines.client)) (client_waits by c few_one now (Does o) called)
-          (waiting_keeps_led by now (Does o) c h.led few_one called)
+      (act_posted lines.client.over o (begun now lines.client)) (client_waits by c few_one now (Does o) called)
+      (waiting_keeps_led by now (Does o) c h.led few_one called)
       (λ s i. (
         client_keeps greatest now (world_meanwhile s c) by (h.parts s i).0 (world.Does o) called
             (subst (λ n. greatest ≤ now + n) (sym (h.skewed s i)) within),
@@ -232,18 +234,18 @@ module _ (skew greatest : ℕ) (c : Cluster) (by : Session) (h : ClusterStands s
   plain_stands now o called =
       let q : LedHolds (after_client by now (Does o) c) = waiting_keeps_led by now (Does o) c h.led few_one called in
       plan_stands c by lines.down (plainly now o) skew greatest h (λ m i. i) (act_posted lines.client.over o (begun now lines.client))
-          (client_waits by c few_one now (Does o) called)
-          (record {
-            parts = q.parts;
-            stages = q.stages;
-            leading = q.leading;
-            ending = q.ending;
-            ready = q.ready;
-            locks = q.locks;
-            files = q.files;
-            few = q.few;
-            told = q.told;
-          })
+      (client_waits by c few_one now (Does o) called)
+      (record {
+        parts = q.parts;
+        stages = q.stages;
+        leading = q.leading;
+        ending = q.ending;
+        ready = q.ready;
+        locks = q.locks;
+        files = q.files;
+        few = q.few;
+        told = q.told;
+      })
       (λ s i. (
         acts_plainly greatest now (world_meanwhile s c) by (h.parts s i).0 o called,
         plan_fits by (ends_in c by).down (plainly now o) (world_meanwhile s c) (λ d j same none. none) (h.parts s i).1,
@@ -290,12 +292,12 @@ module _ (skew greatest : ℕ) (c : Cluster) (by : Session) (h : ClusterStands s
         let q = deciding_in c.servers c.in_flight d i in
         let txn : TxnNo = (q.1.1).message.txn in
         let more : 1 ≤ length its = some_owed txn (slice_get c.servers txn.server) refl (q.1.1).ending (q.1.1).ended
-            (sym (q.1.1).session ∙ one_session d.by by same) in
+        (sym (q.1.1).session ∙ one_session d.by by same) in
         let heard : List Answer = messages lines.down in
         let down : length (due (ends_in c by).down) ≡ length its + length (due heard) =
-            ap length (due_both its heard ∙ ap (λ ys. ys ++ due heard) (all_owed_due by c.servers)) ∙ length-append its (due heard) in
+        ap length (due_both its heard ∙ ap (λ ys. ys ++ due heard) (all_owed_due by c.servers)) ∙ length-append its (due heard) in
         let told : 1 ≤ length (due heard) = some_there a (due heard) (kept_in (λ (x : Answer). not (is_recall x)) a heard
-            (In-mapped (λ (m : ℕ × Answer). m.1) (from, a) lines.down coming) (ap not e)) in
+        (In-mapped (λ (m : ℕ × Answer). m.1) (from, a) lines.down coming) (ap not e)) in
         let one : length (ends_in c by).up + length (due (ends_in c by).down) ≤ 1 = few_one in
         absurd (omega (arith, one, down, told, more))
 
@@ -371,9 +373,10 @@ module _ (skew greatest : ℕ) (c : Cluster) (by : Session) (h : ClusterStands s
       -- the answer fits
       not_strange : plan.out.note ≢ note.Strange
       not_strange = subst (λ (d : Client). (answer_plan d now from a).out.note ≢ note.Strange) (ap (λ (e : Ends). e.client) here)
-          (never_strange greatest now first by first_holds from a (front ++ back)
-          (ap (λ (e : Ends). e.down) here,
-              λ d. ap (λ (e : Ends). asked_server e.client.exchange) here ∙ (h.addressed by).down (from, a) coming d))
+          (never_strange greatest now first by first_holds from a (front ++ back) (
+            ap (λ (e : Ends). e.down) here,
+            λ d. ap (λ (e : Ends). asked_server e.client.exchange) here ∙ (h.addressed by).down (from, a) coming d,
+          ))
 
     pub answer_known : (now : ℕ) → (answer_plan lines.client now from a).out.note ≢ note.Strange
     answer_known now = let q = some_server c h.places in not_strange now q.0 q.1
@@ -381,9 +384,9 @@ module _ (skew greatest : ℕ) (c : Cluster) (by : Session) (h : ClusterStands s
     pub hears_stands : (now : ℕ) → ClusterStands skew greatest (after_client by now (Hears from a) c)
     hears_stands now =
         plan_stands c by rest (answer_plan lines.client now from a) skew greatest h
-            (λ m i. In_without (is_with from) lines.down m i) (hear_posted from a (begun now lines.client))
-            (client_waits by c few_one now (Hears from a) can) (waiting_keeps_led by now (Hears from a) c h.led few_one can)
-            (λ s i. seen_hears now s i)
+        (λ m i. In_without (is_with from) lines.down m i) (hear_posted from a (begun now lines.client))
+        (client_waits by c few_one now (Hears from a) can) (waiting_keeps_led by now (Hears from a) c h.led few_one can)
+        (λ s i. seen_hears now s i)
 
   pub client_stands : (now : ℕ) (e : ClientEvent) → CanCome by e c → greatest ≤ now + skew
       → ClusterStands skew greatest (after_client by now e c)

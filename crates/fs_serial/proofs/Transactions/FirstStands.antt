@@ -95,22 +95,22 @@ module _ (n skew term greatest : ℕ) where
   ends_same x =
       ap₂ (λ (ts : List ClientMsg) (os : List Answer). let z : Ends = record { client = (c.lines x).client; up = ts; down = os } in z)
       (none_each (taken_at x (c.lines x).client.led) c.servers
-          (each n skew term greatest (λ s. taken_at x (c.lines x).client.led s ≡ []) (λ k. refl)))
+      (each n skew term greatest (λ s. taken_at x (c.lines x).client.led s ≡ []) (λ k. refl)))
       (ap (λ (os : List Answer). os ++ []) (none_each (owed_at x) c.servers (each n skew term greatest (λ s. owed_at x s ≡ []) (λ k. refl))))
 
   seen : (s : Server) → In s c.servers → WorldStands greatest (world_meanwhile s c)
   seen s i =
       let holds : WorldHolds greatest (world_meanwhile s c) =
-          alike_holds greatest (world_of s c) (world_meanwhile s c) (record {
-            rows = refl;
-            records = refl;
-            skew = refl;
-            given = λ k. refl;
-            reaps = λ k. refl;
-            journal = refl;
-            replied = refl;
-            ends = ends_same;
-          }) (h.parts s i).clock (h.parts s i) in
+      alike_holds greatest (world_of s c) (world_meanwhile s c) (record {
+        rows = refl;
+        records = refl;
+        skew = refl;
+        given = λ k. refl;
+        reaps = λ k. refl;
+        journal = refl;
+        replied = refl;
+        ends = ends_same;
+      }) (h.parts s i).clock (h.parts s i) in
       (holds, none_fits greatest (world_meanwhile s c) refl holds)
 
   first_some : ClusterStands skew greatest c

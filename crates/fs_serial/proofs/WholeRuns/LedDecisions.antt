@@ -81,9 +81,8 @@ module _ (skew greatest k : ℕ) (c : Cluster) (s : Server) (l : Leading) (at : 
   )
   both (Some e) ends =
       let is : decision l.leader None ≡ Abort e =
-          ap (λ o. unless_ended o (cond (needs_path l.leader.mode l.leader.op) (by_path l.leader None)
-          (commit l.leader (reply_of l.leader.op)))) ends in
-      (
+      ap (λ o. unless_ended o (cond (needs_path l.leader.mode l.leader.op) (by_path l.leader None)
+      (commit l.leader (reply_of l.leader.op)))) ends in (
         abort_places k c s at h.places h.led l there e is,
         abort_stands k skew greatest c s at h l leads e is,
       )

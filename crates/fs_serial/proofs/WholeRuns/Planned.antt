@@ -231,7 +231,7 @@ module _ (c : Client) (l : Lines) (sent : Option (ℕ × ClientMsg)) (rest : Lis
 pub addressed_among : {N : Type 0} (p : Plan N) (l : Lines) (rest : List (ℕ × Answer)) (more : List ClientMsg) (front : List Answer)
     → ((m : ℕ × Answer) → In m rest → In m l.down) → IsPosted p
     → OneExchange (committed p.ready l.client) (committed p.ready l.client).exchange (messages (pushed p.out.send l.up) ++ more)
-        (front ++ messages rest)
+    (front ++ messages rest)
     → IsAddressed l → IsAddressed (record { client = committed p.ready l.client; up = pushed p.out.send l.up; down = rest })
 addressed_among p l rest more front few posted one h =
     by_change (committed p.ready l.client) l p.out.send rest more front few h p.ready.change posted (committed_exchange p.ready l.client) one
