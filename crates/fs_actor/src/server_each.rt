@@ -1,11 +1,14 @@
 //! A server hears one message after another.
-ghost use Rattle.std.specs.Prelude.{◌≡◌, ◌≤◌, None, Some, IsErrOf, OnOk};
+ghost use Rattle.std.specs.Prelude.{◌≡◌, ◌≤◌, ◌++◌, [], ◌∷◌, true, false, None, Some, IsErrOf, OnOk};
+ghost use Rattle.fs_actor.specs.Actor.{is_full_down, with_pushed};
 ghost use Rattle.fs_actor.specs.Events.{server_so_far};
 ghost use Rattle.fs_actor.specs.Hearing.{event_of, message_in};
 ghost use Rattle.fs_actor.specs.Several.{server_hears_each, server_hears_one, server_with};
 ghost use Rattle.fs_ident.specs.declared.limits.TheConstants.{LATEST};
 ghost use Rattle.fs_msg.specs.declared.core_error.Counter.{Counter as TheCounter};
+ghost use Rattle.fs_msg.specs.declared.core_error.Counter.TheVariants.{Segments};
 ghost use Rattle.fs_msg.specs.declared.core_error.CoreError.TheVariants as errors;
+ghost use Rattle.fs_msg.specs.declared.note.Note.TheVariants as note;
 ghost use Rattle.fs_server.specs.Plan.{CanCommit, committed};
 ghost use Rattle.fs_server.specs.Step.{CanBeTold, spent_by, step};
 ghost use Rattle.fs_window.specs.Undo.{undone};
@@ -15,7 +18,7 @@ use crate::pushes::push_all;
 use crate::server_heard::ServerHeard;
 use fs_ident::Peer;
 use fs_msg::{CoreError, Note};
-use fs_server::{Plan, ServerCore, ServerEvent};
+use fs_server::{Plan, ServerCore, ServerEvent, ServerOut};
 use fs_window::{Joined, Post, Undo};
 use std::alloc::Global;
 
@@ -114,8 +117,29 @@ fn does(
         (server_so_far heard.old server.old post.old)).spent ≡ Some counter }
     ensures undo { undone undo.new post.new ≡ undone undo.old post.old }
 {
-    heard.add(alloc, &plan.out)?;
-    push_all(alloc, post, plan.out.send.as_slice(), undo)?;
+    sends(alloc, &plan.out, post, undo, heard)?;
     server.commit(alloc, plan)?;
     Ok(())
+}
+
+/// What came of it is noted, and what the server sends goes onto its links.
+fn sends(
+    alloc: Global,
+    out: &ServerOut,
+    post: &mut Post,
+    undo: &mut Undo,
+    heard: &mut ServerHeard,
+) -> Result<(), CoreError>
+    ensures notes { OnOk result (heard.new.notes ≡
+        heard.old.notes ++ note.Server out.now.note ∷ []) }
+    ensures send { OnOk result (heard.new.send ≡ heard.old.send ++ out.now.send) }
+    ensures admitted { OnOk result (heard.new.admitted ≡ heard.old.admitted ++ out.now.admitted) }
+    ensures ok { OnOk result (post.new ≡ with_pushed out.now.send post.old) }
+    ensures room { OnOk result (is_full_down out.now.send post.old ≡ false) }
+    ensures spent { (counter : TheCounter) → IsErrOf result (errors.Spent counter) →
+        (counter ≡ Segments) × (is_full_down out.now.send post.old ≡ true) }
+    ensures undo { undone undo.new post.new ≡ undone undo.old post.old }
+{
+    heard.add(alloc, out)?;
+    push_all(alloc, post, out.send.as_slice(), undo)
 }
