@@ -10,3 +10,6 @@ pub mod Strange
 pub mod AnyReadings
 pub mod LedKept
 pub mod LedDecisions
+pub mod LedWorlds
+pub mod LedEvents
+pub mod LedEnds
