@@ -13,3 +13,4 @@ pub mod LedDecisions
 pub mod LedWorlds
 pub mod LedEvents
 pub mod LedEnds
+pub mod LedVotes
