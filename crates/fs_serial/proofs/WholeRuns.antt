@@ -14,3 +14,5 @@ pub mod LedWorlds
 pub mod LedEvents
 pub mod LedEnds
 pub mod LedVotes
+pub mod LedQuestions
+pub mod LaterEvents
