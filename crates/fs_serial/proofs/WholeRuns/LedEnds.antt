@@ -1,5 +1,6 @@
 -- What a session asks and is owed stays as it was while its operation is led: its question comes and is not taken before it is decided.
-use Rattle.std.proofs.Common.{◌≡◌, ℕ, ◌+◌, ◌==◌, ◌≤◌, not, Bool, true, false, List, [], ◌∷◌, ◌++◌, length, map, filter, cond, refl, sym, ap, ap₂, ◌∙◌, subst, append-nil, inl, arith}
+use Rattle.std.proofs.Common.{◌≡◌, ℕ, ◌+◌, ◌==◌, ◌≤◌, not, Bool, true, false, List, [], ◌∷◌, ◌++◌}
+use Rattle.std.proofs.Common.{length, map, filter, cond, refl, sym, ap, ap₂, ◌∙◌, subst, append-nil, inl, arith}
 use Rattle.std.specs.Prelude.{Option, Some, None, slice_get, slice_set}
 use Rattle.std.specs.List.{flat_map}
 use Rattle.std.proofs.lemmas.Grind.{flat_map-append}
@@ -93,7 +94,8 @@ module _ (k skew greatest : ℕ) (c : Cluster) (s : Server) (at : slice_get c.se
     its_taken =
         ap (λ o. taken_leads by o servers) led_is
         ∙ each_alone (taken_at by (Some m)) c.servers k s t at few
-        ∙ ap (λ (ls : List Leading). flat_map (λ (z : Leading). question_of (Some m)) (filter (λ (z : Leading). z.leader.session.0 == by.0) ls)) leads
+        ∙ ap (λ (ls : List Leading). flat_map (λ (z : Leading). question_of (Some m))
+            (filter (λ (z : Leading). z.leader.session.0 == by.0) ls)) leads
         ∙ ap (λ (ls : List Leading). flat_map (λ (z : Leading). question_of (Some m)) ls)
             (filter-append (λ (z : Leading). z.leader.session.0 == by.0) (without_leading l.leader.txn s.leading) (new ∷ [])
             ∙ ap₂ (λ (xs ys : List Leading). xs ++ ys) (session.none_left k skew greatest c s at h l there d)
@@ -108,7 +110,8 @@ module _ (k skew greatest : ℕ) (c : Cluster) (s : Server) (at : slice_get c.se
 
     others_taken : (y : Session) → (by.0 == y.0) ≡ false → (led : Option Led) → taken_leads y led servers ≡ taken_leads y led c.servers
     others_taken y off led = each_same (taken_at y led) c.servers k s t at
-        (ap (λ (ls : List Leading). flat_map (λ (z : Leading). question_of led) (filter (λ (z : Leading). z.leader.session.0 == y.0) ls)) leads
+        (ap (λ (ls : List Leading). flat_map (λ (z : Leading). question_of led)
+            (filter (λ (z : Leading). z.leader.session.0 == y.0) ls)) leads
         ∙ ap (λ (ls : List Leading). flat_map (λ (z : Leading). question_of led) ls)
             (filter-append (λ (z : Leading). z.leader.session.0 == y.0) (without_leading l.leader.txn s.leading) (new ∷ [])
             ∙ ap₂ (λ (xs ys : List Leading). xs ++ ys) (session.others_led k skew greatest c s at h l there d y off)

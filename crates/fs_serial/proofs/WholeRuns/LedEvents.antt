@@ -1,6 +1,7 @@
--- Every event of a transaction keeps all that holds of the cluster: the event in which the last vote is counted is one in which it waits, and then
--- the transaction is decided.
-use Rattle.std.proofs.Common.{◌≡◌, ℕ, Bool, true, false, not, List, [], ◌∷◌, ◌++◌, cond, refl, sym, ap, ap₂, ◌∙◌, subst, append-nil, append_assoc}
+-- Every event of a transaction keeps all that holds of the cluster: the event in which the last vote is counted is one in which it
+-- waits, and then it is decided.
+use Rattle.std.proofs.Common.{◌≡◌, ℕ, Bool, true, false, not, List, [], ◌∷◌}
+use Rattle.std.proofs.Common.{◌++◌, cond, refl, sym, ap, ap₂, ◌∙◌, subst, append-nil, append_assoc}
 use Rattle.std.specs.Prelude.{Some, length, slice_get, slice_set}
 use Rattle.std.proofs.lemmas.List.Elements.{filter-append}
 use Rattle.fs_ident.specs.In.{In}
@@ -33,7 +34,8 @@ use Rattle.fs_txn.specs.Votes.{is_full}
 use Rattle.fs_txn.specs.declared.leading.Leading.{Leading}
 use Rattle.fs_txn.specs.declared.ready.Ready.{Ready}
 use Rattle.fs_txn.proofs.Keys.{txn_itself}
-use Rattle.fs_serial.specs.Cluster.{Cluster, InFlight, IsThere, Lines, after_step, in_flight_from, is_between, with_answer, with_sent, without_arrived, without_first, without_question}
+use Rattle.fs_serial.specs.Cluster.{Cluster, InFlight, IsThere, Lines, after_step, in_flight_from}
+use Rattle.fs_serial.specs.Cluster.{is_between, with_answer, with_sent, without_arrived, without_first, without_question}
 use Rattle.fs_serial.specs.Conclusions.{after_concluded, with_items}
 use Rattle.fs_serial.specs.LaterSteps.{TellsItems, after_step_later}
 use Rattle.fs_serial.specs.Leading.{LedHolds}
@@ -52,7 +54,8 @@ use Rattle.fs_serial.proofs.WholeRuns.LedWorlds.{OnlyRows, quiet_stands, undecid
 
 -- ## It waits, and is decided then
 
-sent_both : (k : ℕ) (xs ys : List (Peer × Msg)) (lines : Session → Lines) → with_sent k (xs ++ ys) lines ≡ with_sent k ys (with_sent k xs lines)
+sent_both : (k : ℕ) (xs ys : List (Peer × Msg)) (lines : Session → Lines)
+    → with_sent k (xs ++ ys) lines ≡ with_sent k ys (with_sent k xs lines)
 sent_both k [] ys lines = refl
 sent_both k ((OfSession to, msg.Answer a) ∷ rest) ys lines = sent_both k rest ys (with_answer k to a lines)
 sent_both k (m ∷ rest) ys lines = sent_both k rest ys lines
@@ -66,7 +69,8 @@ left_twice txn (x ∷ xs) = at (same_txn x.leader.txn txn) refl (left_twice txn 
         → without_leading txn (cond (not b) (x ∷ without_leading txn xs) (without_leading txn xs))
         ≡ cond (not b) (x ∷ without_leading txn xs) (without_leading txn xs)
     at true e rest = rest
-    at false e rest = ap (λ b. cond (not b) (x ∷ without_leading txn (without_leading txn xs)) (without_leading txn (without_leading txn xs))) e
+    at false e rest = ap (λ b.
+        cond (not b) (x ∷ without_leading txn (without_leading txn xs)) (without_leading txn (without_leading txn xs))) e
         ∙ ap (λ xs. x ∷ xs) rest
 
 left_again : (l : Leading) (xs : List Leading) → without_leading l.leader.txn (with_leading l xs) ≡ without_leading l.leader.txn xs
@@ -120,7 +124,8 @@ module _ (skew greatest k : ℕ) (c : Cluster) (s : Server) (at : slice_get c.se
         by : (b : Bool) → is_full l.leader.votes ≡ b → ClusterStands skew greatest (after_step_later k e (cond b both first) c)
         by true full =
             subst (ClusterStands skew greatest) same_cluster
-            (decision_keeps skew greatest k behind first.server l (get_here c.servers k s first.server at) h (leading_set l t.leading) full splits)
+            (decision_keeps skew greatest k behind first.server l (get_here c.servers k s first.server at) h
+            (leading_set l t.leading) full splits)
         by false full = h
 
 -- ## A word comes
@@ -205,6 +210,6 @@ module _ (skew greatest k : ℕ) (c : Cluster) (s : Server) (at : slice_get c.se
       let led = subst (λ z. LedHolds (after_step k (event.FromPeer from (peer.Decide m)) z c)) same
           ((all_keep_led skew greatest k c s at h).decided from m comes) in
       subst (λ z. ClusterStands skew greatest (after_step k (event.FromPeer from (peer.Decide m)) z c)) (sym same)
-      (all_stand skew greatest k c s at h (after_step k (event.FromPeer from (peer.Decide m)) (applies from m s) c) (after_decision m s) refl
-      refl (h.parts s here).0.clock (decided_places k c s at h.places h.led from m comes) led
+      (all_stand skew greatest k c s at h (after_step k (event.FromPeer from (peer.Decide m)) (applies from m s) c)
+      (after_decision m s) refl refl (h.parts s here).0.clock (decided_places k c s at h.places h.led from m comes) led
       (decide_stands k from skew greatest c s at h m comes led) h.addressed)

@@ -36,7 +36,8 @@ use Rattle.fs_serial.specs.Seen.{IsAddressed}
 use Rattle.fs_serial.specs.Words.{decided_among, decided_by}
 use Rattle.fs_serial.proofs.LedOperations.LeadEvents.{none_more}
 use Rattle.fs_serial.proofs.Moves.Parcels.{parcels-append}
-use Rattle.fs_serial.proofs.Transactions.PlacesAfter.{AreRelocked, AreWords, both_words, no_words, one_word, relocked_not, relocked_then, voted_so}
+use Rattle.fs_serial.proofs.Transactions.PlacesAfter.{AreRelocked, AreWords, both_words, no_words}
+use Rattle.fs_serial.proofs.Transactions.PlacesAfter.{one_word, relocked_not, relocked_then, voted_so}
 use Rattle.fs_serial.proofs.Transactions.PutOff.{put_off_keeps}
 use Rattle.fs_serial.proofs.Transactions.RoundsLocks.{round_by, sent_append}
 use Rattle.fs_serial.proofs.Transactions.RoundsStages.{rounds_lines, rounds_server}
@@ -161,7 +162,9 @@ module _ (skew greatest k : ℕ) (c : Cluster) (s : Server) (at : slice_get c.se
   pub lead_event : ClusterStands skew greatest (after_step_later k e (leads_or_refuses (lead_refusal s m) by m s) c)
   lead_event = by_refusal (lead_refusal s m) refl
     where
-      by_refusal : (o : Option Why) → lead_refusal s m ≡ o → ClusterStands skew greatest (after_step_later k e (leads_or_refuses o by m s) c)
+      by_refusal : (o : Option Why) → lead_refusal s m ≡ o
+          → ClusterStands skew greatest (after_step_later k e (leads_or_refuses o by m s) c)
       by_refusal None accepted =
-          goes_on_keeps skew greatest k c s at e (λ items replied. refl) splits (note.Prepares (txn_of s)) new r.send r.server (begun accepted)
+          goes_on_keeps skew greatest k c s at e (λ items replied. refl) splits (note.Prepares (txn_of s)) new r.send
+          r.server (begun accepted)
       by_refusal (Some w) why = refused w

@@ -17,7 +17,8 @@ use Rattle.fs_msg.specs.declared.server_note.ServerNote.{ServerNote}
 use Rattle.fs_msg.specs.declared.server_note.ServerNote.TheVariants as note
 use Rattle.fs_msg.specs.declared.voted.Voted.{Voted as VotedMsg}
 use Rattle.fs_server.specs.Concludes.{waits}
-use Rattle.fs_server.specs.Counts.{after_own_vote, ask_for, asked_at, comes_home, counts, counts_own, seeks, sent_on, vote_step, voted, with_vote}
+use Rattle.fs_server.specs.Counts.{after_own_vote, ask_for, asked_at, comes_home, counts}
+use Rattle.fs_server.specs.Counts.{counts_own, seeks, sent_on, vote_step, voted, with_vote}
 use Rattle.fs_server.specs.Follows.{to_server, vote_here}
 use Rattle.fs_server.specs.LeadingLaws.{CommitSplits}
 use Rattle.fs_server.specs.Server.{is_mine}
@@ -27,7 +28,8 @@ use Rattle.fs_server.specs.declared.state.Server.{Server}
 use Rattle.fs_txn.specs.Leading.{with_leading}
 use Rattle.fs_txn.specs.Votes.{Votes, is_moved, votes_after}
 use Rattle.fs_txn.specs.declared.leading.Leading.{Leading}
-use Rattle.fs_serial.specs.Cluster.{Cluster, InFlight, IsThere, after_step, in_flight_from, is_between, parcels_of, with_sent, without_first}
+use Rattle.fs_serial.specs.Cluster.{Cluster, InFlight, IsThere, after_step}
+use Rattle.fs_serial.specs.Cluster.{in_flight_from, is_between, parcels_of, with_sent, without_first}
 use Rattle.fs_serial.specs.LaterSteps.{after_step_later}
 use Rattle.fs_serial.specs.Leading.{LedHolds}
 use Rattle.fs_serial.specs.Meanwhile.{ClusterStands}
@@ -148,4 +150,5 @@ module _ (skew greatest k : ℕ) (c : Cluster) (s : Server) (at : slice_get c.se
       (sent q.wanted q.part (ap is_moved is) to (subst (VoteNames (length c.servers)) is names) (to == s.me) refl)
 
   pub vote_event : ClusterStands skew greatest (after_step_later k e (vote_step m s) c)
-  vote_event = subst (λ x. ClusterStands skew greatest (after_step_later k e x c)) (sym (vote_is k from c s at h.led m q)) (by_vote m.vote refl)
+  vote_event =
+      subst (λ x. ClusterStands skew greatest (after_step_later k e x c)) (sym (vote_is k from c s at h.led m q)) (by_vote m.vote refl)
