@@ -16,3 +16,4 @@ pub mod LedEnds
 pub mod LedVotes
 pub mod LedQuestions
 pub mod LaterEvents
+pub mod LedAnswers
