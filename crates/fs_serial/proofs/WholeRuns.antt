@@ -17,3 +17,4 @@ pub mod LedVotes
 pub mod LedQuestions
 pub mod LaterEvents
 pub mod LedAnswers
+pub mod LedStillDecided
