@@ -10,3 +10,11 @@ pub mod Strange
 pub mod AnyReadings
 pub mod LedKept
 pub mod LedDecisions
+pub mod LedWorlds
+pub mod LedEvents
+pub mod LedEnds
+pub mod LedVotes
+pub mod LedQuestions
+pub mod LaterEvents
+pub mod LedAnswers
+pub mod LedStillDecided
