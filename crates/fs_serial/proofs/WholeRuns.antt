@@ -10,3 +10,8 @@ pub mod Strange
 pub mod AnyReadings
 pub mod LedKept
 pub mod LedDecisions
+pub mod RunsMeanwhile
+pub mod EventsMeanwhile
+pub mod FairMeanwhile
+pub mod StrangeMeanwhile
+pub mod AnyMeanwhile
