@@ -44,8 +44,7 @@ use Rattle.fs_serial.specs.Runs.{AtClient, AtServer, CanHappen, CanRun, ClusterE
 use Rattle.fs_serial.specs.Serial.{AreSound}
 use Rattle.fs_serial.specs.World.{pushed, told_by, with_told}
 use Rattle.fs_serial.proofs.Replies.Answering.{AnswerEnds, answer_ends, as_entry, as_led, as_move, as_read, not_told, put_off}
-use Rattle.fs_serial.proofs.ClientMessages.ActMoves.{with_items}
-use Rattle.fs_serial.proofs.Transactions.ClientsStand.{answer_known, hears_stands, plain_stands, turn_stands}
+use Rattle.fs_serial.proofs.Transactions.ClientsStand.{answer_known, hears_stands, plain_stands, plainly, turn_stands}
 use Rattle.fs_serial.proofs.Transactions.FirstStands.{first_stands}
 use Rattle.fs_serial.proofs.WholeRuns.ClusterClients.{some_server}
 use Rattle.fs_serial.proofs.Lists.Journals.{made_in-append, or_assoc, or_none}
@@ -182,11 +181,6 @@ server_anyhow server_keeps skew greatest now k e s c at before there h =
 
 -- ## A client's events
 
--- what the client makes of an operation, where the root's kind joins the journal in place of what is read
-abbrev does_plainly : Cluster → Session → ℕ → Op → Plan Act
-does_plainly c by now o = with_items (λ i. plain_read (nodes_of (held_meanwhile c)) by (c.lines by).client.next)
-    (act_plan (c.lines by).client now o)
-
 come_too : (by : Session) (e : ClientEvent) (journal : List Item) (replied : Session → List Item) (c : Cluster) → CanCome by e c
     → CanCome by e (told_as journal replied c)
 come_too by (Does o) journal replied c can = can
@@ -197,7 +191,7 @@ pub client_anyhow : (skew greatest now : ℕ) (c : Cluster) (by : Session) → H
     → CanCome by e c → HoldsAnyhow skew greatest (after_client by now e c)
 client_anyhow skew greatest now c by h (Does o) can =
     let d = told_as h.journal h.replied c in
-    let p = does_plainly d by now o in
+    let p = plainly skew greatest d by h.holds now o in
     record {
       journal = pushed p.out.admitted h.journal;
       replied = with_told by (told_by by p.ready.change p.out.admitted) h.replied;
