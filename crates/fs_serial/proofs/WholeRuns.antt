@@ -18,3 +18,8 @@ pub mod LedQuestions
 pub mod LaterEvents
 pub mod LedAnswers
 pub mod LedStillDecided
+pub mod RunsMeanwhile
+pub mod EventsMeanwhile
+pub mod FairMeanwhile
+pub mod StrangeMeanwhile
+pub mod AnyMeanwhile
