@@ -91,7 +91,7 @@ ask_none : (needs some : List Need) (c : Client) → MakesNone (ask_for needs so
 ask_none needs [] c = full_none needs c
 ask_none needs (n ∷ ns) c = elim (is_some c.exchange) as
     (λ b. MakesNone (cond b (stays (act.Busy busy.Exchange) c) (asks (hinted c (need_file n)) (n ∷ ns) c)).out.admitted)
-        [ true ↦ tt | false ↦ tt ]
+    [ true ↦ tt | false ↦ tt ]
 
 -- nor does a delete or a rename
 unmade_move : (v : View) (now : ℕ) (o : Op) (r : Reply) (id : List ℕ) → tells_its_effects o ≡ false
@@ -166,11 +166,11 @@ there_too k (Move prefix to) journal replied c there = there
 
 pub server_anyhow : ServersKeepAll → (skew greatest now k : ℕ) (e : ServerEvent) (s : Server) (c : Cluster)
     → slice_get c.servers k ≡ Some s → max s.last now ≤ greatest → IsThere k e c → HoldsAnyhow skew greatest c
-        → HoldsAnyhow skew greatest (after_server now k e c)
+    → HoldsAnyhow skew greatest (after_server now k e c)
 server_anyhow server_keeps skew greatest now k e s c at before there h =
     let d = told_as h.journal h.replied c in
     let kept : ClusterStands skew greatest (after_server now k e d) = server_keeps skew greatest now k e s d at before
-        (there_too k e h.journal h.replied c there) h.holds in
+    (there_too k e h.journal h.replied c there) h.holds in
     let more = (step s now e).out.admitted in
     subst (λ (o : Option Server). HoldsAnyhow skew greatest (after_server_at o now k e c)) (sym at) (record {
       journal = h.journal ++ more;
@@ -282,11 +282,11 @@ module _ (server_keeps : ServersKeepAll) where
       → HoldsAnyhow skew greatest c → IsThere k e c → HoldsAnyhow skew (max greatest now) (after_server now k e c)
   at_server skew greatest now k e c None at h there =
       subst (λ (o : Option Server). HoldsAnyhow skew (max greatest now) (after_server_at o now k e c)) (sym at)
-          (anyhow_later skew greatest (max greatest now) c (omega arith) h)
+      (anyhow_later skew greatest (max greatest now) c (omega arith) h)
   at_server skew greatest now k e c (Some s) at h there =
       let clock : s.last ≤ greatest = (h.holds.parts s (In-got c.servers k s at)).0.clock in
       server_anyhow server_keeps skew (max greatest now) now k e s c at (omega arith) there
-          (anyhow_later skew greatest (max greatest now) c (omega arith) h)
+      (anyhow_later skew greatest (max greatest now) c (omega arith) h)
 
   event_anyhow : (skew greatest now : ℕ) (e : ClusterEvent) (c : Cluster) → HoldsAnyhow skew greatest c → CanHappen e c
       → HoldsAnyhow skew (max greatest now) (after_event now e c)
@@ -304,4 +304,4 @@ module _ (server_keeps : ServersKeepAll) where
       → IsOrderly (run es (first_cluster servers skew term))
   all_orderly servers skew term es some r =
       anyhow_orderly skew (greatest_in 0 es) (run es (first_cluster servers skew term))
-          (run_anyhow skew 0 es (first_cluster servers skew term) (first_anyhow servers skew term 0 some) r)
+      (run_anyhow skew 0 es (first_cluster servers skew term) (first_anyhow servers skew term 0 some) r)

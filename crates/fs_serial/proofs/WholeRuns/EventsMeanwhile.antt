@@ -23,11 +23,11 @@ pub event_keeps : (e : ServerEvent) → StepKeepsAll e → (skew greatest now k 
 event_keeps e keeps skew greatest now k s c at before there h =
     let later : Cluster = begun_at now k s c in
     let stepped = keeps skew greatest k later (begun now s) (get_here c.servers k s (begun now s) at)
-        (begins_stands skew greatest now k s c at before h) (there_begun now k s e c there) in
+    (begins_stands skew greatest now k s c at before h) (there_begun now k s e c there) in
     let after : Cluster = after_step k e (step s now e) c in
     let done : ClusterStands skew greatest after =
-        subst (λ (ss : List Server). ClusterStands skew greatest (record after { servers = ss }))
-        (set_twice c.servers k (begun now s) (step s now e).server) stepped in
+    subst (λ (ss : List Server). ClusterStands skew greatest (record after { servers = ss }))
+    (set_twice c.servers k (begun now s) (step s now e).server) stepped in
     subst (λ (o : Option Server). ClusterStands skew greatest (after_server_at o now k e c)) (sym at) done
 
 pub all_events : ((e : ServerEvent) → StepKeepsAll e) → ServersKeepAll

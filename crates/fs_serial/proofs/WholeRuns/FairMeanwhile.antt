@@ -37,9 +37,9 @@ use Rattle.fs_serial.proofs.WholeRuns.RunsMeanwhile.{cluster_later}
 log_rows : (by : Session) (es : List Entry) (s : Server) → (ship_step by es s).server.rows ≡ s.rows
 log_rows by es s = elim (list_all (λ (e : Entry). tells_its_effects e.op) es) as
     (λ b. (cond b (shipped by (ship_from by es s [])) (strange s)).server.rows ≡ s.rows) [
-  | true ↦ ap (λ (t : Server). t.rows) (ships_leave by es s [])
-  | false ↦ refl
-]
+      | true ↦ ap (λ (t : Server). t.rows) (ships_leave by es s [])
+      | false ↦ refl
+    ]
 
 -- one that has begun
 begun_fair : (skew greatest k : ℕ) (by : Session) (entries : List Entry) (s : Server) (c : Cluster) → slice_get c.servers k ≡ Some s
@@ -51,18 +51,18 @@ begun_fair skew greatest k by entries s c at within there h =
     let i = In-got c.servers k s at in
     let view = h.parts s i in
     let coming : In (Ship entries) (ends_in c by).up =
-        In-front (Ship entries) (messages (c.lines by).up) (taken_leads by (c.lines by).client.led c.servers)
-        (In-mapped (λ (n : ℕ × ClientMsg). n.1) (k, Ship entries) (c.lines by).up
-        (found (is_with k) (c.lines by).up (k, Ship entries) there).0) in
+    In-front (Ship entries) (messages (c.lines by).up) (taken_leads by (c.lines by).client.led c.servers)
+    (In-mapped (λ (n : ℕ × ClientMsg). n.1) (k, Ship entries) (c.lines by).up
+    (found (is_with k) (c.lines by).up (k, Ship entries) there).0) in
     let same : IsSameStep k e s (event_step e s) (event_step e (with_all s c)) c =
-        begun_in greatest k c s e at h.places (decided_in c) (ends_in c) view.0 view.1 coming tt (λ z. absurd (cc)) in
+    begun_in greatest k c s e at h.places (decided_in c) (ends_in c) view.0 view.1 coming tt (λ z. absurd (cc)) in
     let near : greatest ≤ s.last + s.skew = subst (λ n. greatest ≤ s.last + n) (sym (h.skewed s i)) within in
     let fair : IsFairNote (with_all s c).rows by s.last entries (ship_step by entries (with_all s c)).out.note =
-        fair_ship greatest (world_meanwhile s c) by entries coming near view.0 in
+    fair_ship greatest (world_meanwhile s c) by entries coming near view.0 in
     let rows : rows_in (after_step k e (event_step e s) c) ≡ (with_all s c).rows =
-        sym (ap (λ (t : Server). t.rows) same.server) ∙ log_rows by entries (with_all s c) in
+    sym (ap (λ (t : Server). t.rows) same.server) ∙ log_rows by entries (with_all s c) in
     subst (λ (rs : List Row). IsFairNote rs by s.last entries (event_step e s).out.note) (sym rows)
-        (subst (λ (o : ServerOut). IsFairNote (with_all s c).rows by s.last entries o.note) (sym same.out) fair)
+    (subst (λ (o : ServerOut). IsFairNote (with_all s c).rows by s.last entries o.note) (sym same.out) fair)
 
 pub fair : (skew greatest now k : ℕ) (by : Session) (entries : List Entry) (s : Server) (c : Cluster) → slice_get c.servers k ≡ Some s
     → greatest ≤ now + skew → IsThere k (event.FromClient by (Ship entries)) c → ClusterStands skew greatest c
@@ -78,4 +78,4 @@ fair skew greatest now k by entries s c at within there h =
     let told = begun_fair skew later k by entries (begun now s) begun_now (get_here c.servers k s (begun now s) at) near there held in
     let after : Cluster = after_step k e x c in
     subst (λ (ss : List Server). IsFairNote (rows_in (record after { servers = ss })) by (max s.last now) entries x.out.note)
-        (set_twice c.servers k (begun now s) x.server) told
+    (set_twice c.servers k (begun now s) x.server) told

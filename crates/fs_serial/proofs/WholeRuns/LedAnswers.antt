@@ -60,7 +60,7 @@ rotated greatest by (a ∷ back) front w order h =
     let one : World = with_first by (back ++ (front ++ a ∷ [])) w in
     let holds : WorldHolds greatest one = rotated greatest by back (front ++ a ∷ []) w (order ∙ sym (append_assoc front (a ∷ []) back)) h in
     let down : (one.ends by).down ≡ (back ++ front) ++ a ∷ [] =
-        down_first by (back ++ (front ++ a ∷ [])) w ∙ sym (append_assoc back front (a ∷ [])) in
+    down_first by (back ++ (front ++ a ∷ [])) w ∙ sym (append_assoc back front (a ∷ [])) in
     subst (λ es. WorldHolds greatest (record w { ends = es })) (first_twice by (back ++ (front ++ a ∷ [])) (a ∷ (back ++ front)) w)
     (subst (λ as_. WorldHolds greatest (with_first by (a ∷ as_) one)) (append-nil (back ++ front))
     (reordered greatest one by (back ++ front) [] a down holds))
@@ -102,8 +102,8 @@ module _ (skew greatest k : ℕ) (c : Cluster) (s : Server) (at : slice_get c.se
   owed_then t ending =
       ap (λ (es : List Ending). map (λ (z : Ending). answer.Led z.end) (filter (λ (z : Ending). z.session.0 == by.0) es)) ending
       ∙ ap (map (λ (z : Ending). answer.Led z.end))
-          (filter-append (λ (z : Ending). z.session.0 == by.0) (without_ending x.txn s.ending) fresh
-          ∙ ap (λ es. es ++ filter (λ (z : Ending). z.session.0 == by.0) fresh) none_left)
+      (filter-append (λ (z : Ending). z.session.0 == by.0) (without_ending x.txn s.ending) fresh
+      ∙ ap (λ es. es ++ filter (λ (z : Ending). z.session.0 == by.0) fresh) none_left)
       ∙ new (is_some (slice_get awaits 0))
     where
       new : (b : Bool) → map (λ (z : Ending). answer.Led z.end) (filter (λ (z : Ending). z.session.0 == by.0) (cond b (left ∷ []) []))

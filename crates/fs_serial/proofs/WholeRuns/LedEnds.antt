@@ -83,11 +83,11 @@ module _ (k skew greatest : ℕ) (c : Cluster) (s : Server) (at : slice_get c.se
     few : length (taken_leads by (Some m) c.servers) ≤ length (taken_at by (Some m) s)
     few =
         let some : 1 ≤ length (taken_at by (Some m) s) =
-            some_there asks (taken_at by (Some m) s) (session.taken_here k skew greatest c s at h l there d) in
+        some_there asks (taken_at by (Some m) s) (session.taken_here k skew greatest c s at h l there d) in
         let all : length (taken_leads by (c.lines by).client.led c.servers) ≡ length (taken_leads by (Some m) c.servers) =
-            ap (λ o. length (taken_leads by o c.servers)) led_is in
+        ap (λ o. length (taken_leads by o c.servers)) led_is in
         let counted : length (messages (c.lines by).up) + length (taken_leads by (c.lines by).client.led c.servers) ≡ 1 =
-            session.counted k skew greatest c s at h l there d in
+        session.counted k skew greatest c s at h l there d in
         omega (arith, counted, some, all)
 
     its_taken : taken_leads by (c.lines by).client.led servers ≡ asks ∷ []
@@ -95,11 +95,11 @@ module _ (k skew greatest : ℕ) (c : Cluster) (s : Server) (at : slice_get c.se
         ap (λ o. taken_leads by o servers) led_is
         ∙ each_alone (taken_at by (Some m)) c.servers k s t at few
         ∙ ap (λ (ls : List Leading). flat_map (λ (z : Leading). question_of (Some m))
-            (filter (λ (z : Leading). z.leader.session.0 == by.0) ls)) leads
+        (filter (λ (z : Leading). z.leader.session.0 == by.0) ls)) leads
         ∙ ap (λ (ls : List Leading). flat_map (λ (z : Leading). question_of (Some m)) ls)
-            (filter-append (λ (z : Leading). z.leader.session.0 == by.0) (without_leading l.leader.txn s.leading) (new ∷ [])
-            ∙ ap₂ (λ (xs ys : List Leading). xs ++ ys) (session.none_left k skew greatest c s at h l there d)
-            (ap (λ b. cond b (new ∷ []) []) (itself by.0)))
+        (filter-append (λ (z : Leading). z.leader.session.0 == by.0) (without_leading l.leader.txn s.leading) (new ∷ [])
+        ∙ ap₂ (λ (xs ys : List Leading). xs ++ ys) (session.none_left k skew greatest c s at h l there d)
+        (ap (λ b. cond b (new ∷ []) []) (itself by.0)))
 
     own_still : ends_with by servers (c.lines by) ≡ ends_in c by
     own_still =
@@ -111,12 +111,12 @@ module _ (k skew greatest : ℕ) (c : Cluster) (s : Server) (at : slice_get c.se
     others_taken : (y : Session) → (by.0 == y.0) ≡ false → (led : Option Led) → taken_leads y led servers ≡ taken_leads y led c.servers
     others_taken y off led = each_same (taken_at y led) c.servers k s t at
         (ap (λ (ls : List Leading). flat_map (λ (z : Leading). question_of led)
-            (filter (λ (z : Leading). z.leader.session.0 == y.0) ls)) leads
+        (filter (λ (z : Leading). z.leader.session.0 == y.0) ls)) leads
         ∙ ap (λ (ls : List Leading). flat_map (λ (z : Leading). question_of led) ls)
-            (filter-append (λ (z : Leading). z.leader.session.0 == y.0) (without_leading l.leader.txn s.leading) (new ∷ [])
-            ∙ ap₂ (λ (xs ys : List Leading). xs ++ ys) (session.others_led k skew greatest c s at h l there d y off)
-            (ap (λ b. cond b (new ∷ []) []) off)
-            ∙ append-nil (filter (λ (z : Leading). z.leader.session.0 == y.0) s.leading)))
+        (filter-append (λ (z : Leading). z.leader.session.0 == y.0) (without_leading l.leader.txn s.leading) (new ∷ [])
+        ∙ ap₂ (λ (xs ys : List Leading). xs ++ ys) (session.others_led k skew greatest c s at h l there d y off)
+        (ap (λ b. cond b (new ∷ []) []) off)
+        ∙ append-nil (filter (λ (z : Leading). z.leader.session.0 == y.0) s.leading)))
 
     pub asked_still : (y : Session) → ends_with y servers (c.lines y) ≡ ends_in c y
     asked_still y = by_test (by.0 == y.0) refl
@@ -168,7 +168,7 @@ module _ (k skew greatest : ℕ) (c : Cluster) (s : Server) (at : slice_get c.se
   taken_more y led =
       ap (flat_map (λ (z : Leading). question_of led)) (one_more y)
       ∙ flat_map-append (λ (z : Leading). question_of led) (filter (λ (z : Leading). z.leader.session.0 == y.0) s.leading)
-          (cond (by.0 == y.0) (new ∷ []) [])
+      (cond (by.0 == y.0) (new ∷ []) [])
       ∙ ap (λ qs. taken_at y led s ++ qs) (new_one (by.0 == y.0))
     where
       new_one : (b : Bool) → flat_map (λ (z : Leading). question_of led) (cond b (new ∷ []) []) ≡ cond b (question_of led ++ []) []
@@ -198,11 +198,11 @@ module _ (k skew greatest : ℕ) (c : Cluster) (s : Server) (at : slice_get c.se
   own_then =
       ap₂ (λ us os. ends (lines by).client us (os ++ messages (lines by).down))
       (ap₂ (λ (us ts : List ClientMsg). us ++ ts) none.0
-          (each_alone (taken_at by (lines by).client.led) c.servers k s t at
-              (let few : length (taken_leads by (lines by).client.led c.servers) ≡ 0 = ap length none.1 in omega (arith, few))
-          ∙ taken_more by (lines by).client.led
-          ∙ ap₂ (λ (xs ys : List ClientMsg). xs ++ ys) (each_none (taken_at by (lines by).client.led) c.servers k s at none.1)
-          (ap (λ b. cond b (question_of (lines by).client.led ++ []) []) (itself by.0) ∙ question)))
+      (each_alone (taken_at by (lines by).client.led) c.servers k s t at
+      (let few : length (taken_leads by (lines by).client.led c.servers) ≡ 0 = ap length none.1 in omega (arith, few))
+      ∙ taken_more by (lines by).client.led
+      ∙ ap₂ (λ (xs ys : List ClientMsg). xs ++ ys) (each_none (taken_at by (lines by).client.led) c.servers k s at none.1)
+      (ap (λ b. cond b (question_of (lines by).client.led ++ []) []) (itself by.0) ∙ question)))
       (owed_same c.servers k s t at ending by)
       ∙ ap (λ (z : Ends). ends z.client (Lead m ∷ []) z.down) question_gone
       ∙ ap (λ us. ends (c.lines by).client us (ends_in c by).down) (sym (up_asked skew greatest c s here h by k m comes))

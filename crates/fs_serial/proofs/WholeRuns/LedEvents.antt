@@ -208,7 +208,7 @@ module _ (skew greatest k : ℕ) (c : Cluster) (s : Server) (at : slice_get c.se
   decide_event from m comes =
       let same = decide_awaited k from c s at h.led m comes in
       let led = subst (λ z. LedHolds (after_step k (event.FromPeer from (peer.Decide m)) z c)) same
-          ((all_keep_led skew greatest k c s at h).decided from m comes) in
+      ((all_keep_led skew greatest k c s at h).decided from m comes) in
       subst (λ z. ClusterStands skew greatest (after_step k (event.FromPeer from (peer.Decide m)) z c)) (sym same)
       (all_stand skew greatest k c s at h (after_step k (event.FromPeer from (peer.Decide m)) (applies from m s) c)
       (after_decision m s) refl refl (h.parts s here).0.clock (decided_places k c s at h.places h.led from m comes) led

@@ -57,8 +57,7 @@ IsAsking k servers ms =
 asks_more : (k servers to : ℕ) (txn : TxnNo) (number : ℕ) (by : Session) (p : Part) (ms : List (Peer × Msg)) → to < servers
     → IsAsking k servers ms → IsAsking k servers (ms ++ to_server to (ask_for txn number by p) ∷ [])
 asks_more k servers to txn number by p ms below q =
-    let ask : List (Peer × Msg) = to_server to (ask_for txn number by p) ∷ [] in
-    (
+    let ask : List (Peer × Msg) = to_server to (ask_for txn number by p) ∷ [] in (
       both_words servers ms ask q.0 (one_word servers to (ask_for txn number by p) (record { there = below; names = tt; word = refl })),
       (
         ap parcels_of (sent_append k ms ask) ∙ parcels-append (in_flight_from k ms) (in_flight_from k ask) ∙ ap (λ ps. ps ++ []) q.1.0,

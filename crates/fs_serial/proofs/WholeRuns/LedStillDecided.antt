@@ -35,7 +35,7 @@ module _ (ss : List Server) (after : Cluster) (led : LedHolds after) (same : Sam
           let word = told_with f.from f.to (key, Decide m.effects) in
           let told : told_in f ≡ Some word = ap (λ x. told_in (let g : InFlight = record { from = f.from; to = f.to; message = x } in g)) e in
           let w = deciding_word (desks_of led.parts after) key word refl led.stages
-              (In-filter_map told_in f word after.in_flight i told) m.effects refl in
+          (In-filter_map told_in f word after.in_flight i told) m.effects refl in
           let a = awaited_by m.number w.at (led_in after.servers m.txn) (ended_in after.servers m.txn) w.stage in
           let b = same m.txn a.ending a.is in
           ap (λ o. decided_at o m.effects) a.is

@@ -86,7 +86,7 @@ pub pending_together : (skew greatest : ℕ) (c : Cluster) (by : Session) (front
 pending_together skew greatest c by front rest s h there log over stand =
     let v = world_meanwhile s c in
     pending_from (counts_of c.servers) s.skew greatest c.replied by rest front (seen v.decided v.server) c.journal
-        (λ x. settled_at x (ends_in c x)) (h.parts s there).0.all log over stand
+    (λ x. settled_at x (ends_in c x)) (h.parts s there).0.all log over stand
 
 -- all entries that come are plain, so that one whose rows stand is admitted when it comes
 pub admitted_always : (skew greatest now k : ℕ) (s : Server) (c : Cluster) (by : Session) (front rest : List Entry) (e : Entry)
@@ -96,11 +96,11 @@ pub admitted_always : (skew greatest now k : ℕ) (s : Server) (c : Cluster) (by
 admitted_always skew greatest now k s c by front rest e at there h mine stand =
     let entries : List Entry = front ++ e ∷ rest in
     let coming : In (Ship entries) (ends_in c by).up = In-front (Ship entries) (messages (c.lines by).up)
-        (taken_leads by (c.lines by).client.led c.servers)
-        (In-mapped (λ (n : ℕ × ClientMsg). n.1) (k, Ship entries) (c.lines by).up
-            (found (is_with k) (c.lines by).up (k, Ship entries) there).0) in
+    (taken_leads by (c.lines by).client.led c.servers)
+    (In-mapped (λ (n : ℕ × ClientMsg). n.1) (k, Ship entries) (c.lines by).up
+    (found (is_with k) (c.lines by).up (k, Ship entries) there).0) in
     admitted_at_once s now by front rest e
-        (all_plain greatest (world_meanwhile s c) by entries coming (h.parts s (In-got c.servers k s at)).0) mine stand
+    (all_plain greatest (world_meanwhile s c) by entries coming (h.parts s (In-got c.servers k s at)).0) mine stand
 
 -- ## Runs
 
@@ -118,7 +118,7 @@ module _ (server_keeps : ServersKeepAll) where
   at_server skew greatest now k e c (Some s) at h there =
       let clock : s.last ≤ greatest = (h.parts s (In-got c.servers k s at)).0.clock in
       server_keeps skew (max greatest now) now k e s c at (omega arith) there
-          (cluster_later skew greatest (max greatest now) c (omega arith) h)
+      (cluster_later skew greatest (max greatest now) c (omega arith) h)
 
   event_keeps : (skew greatest now : ℕ) (e : ClusterEvent) (c : Cluster) → ClusterStands skew greatest c → CanHappen e c
       → greatest ≤ now + skew
@@ -138,4 +138,4 @@ module _ (server_keeps : ServersKeepAll) where
       → IsOneSerialRun (run es (first_cluster servers skew term))
   all_runs servers skew term es some r =
       outcome skew (greatest_in 0 es) (run es (first_cluster servers skew term))
-          (run_keeps skew 0 es (first_cluster servers skew term) (first_stands servers skew term 0 some) r)
+      (run_keeps skew 0 es (first_cluster servers skew term) (first_stands servers skew term 0 some) r)

@@ -71,9 +71,9 @@ module _ (skew greatest k : ℕ) (c : Cluster) (s : Server) (at : slice_get c.se
   message_note by (Lead m) there none = absurd none
   message_note by (Ship entries) there none =
       let coming : In (Ship entries) (ends_in c by).up =
-          In-front (Ship entries) (messages (c.lines by).up) (taken_leads by (c.lines by).client.led c.servers)
-          (In-mapped (λ (n : ℕ × ClientMsg). n.1) (k, Ship entries) (c.lines by).up
-          (found (is_with k) (c.lines by).up (k, Ship entries) there).0) in
+      In-front (Ship entries) (messages (c.lines by).up) (taken_leads by (c.lines by).client.led c.servers)
+      (In-mapped (λ (n : ℕ × ClientMsg). n.1) (k, Ship entries) (c.lines by).up
+      (found (is_with k) (c.lines by).up (k, Ship entries) there).0) in
       log_note by entries s (all_plain greatest (world_meanwhile s c) by entries coming now.0)
 
   rows_stand : RowsStand (count_with s.me s.given (counts_of c.servers).given) (held_by c) (rows_in c)
@@ -106,4 +106,4 @@ pub others_plain : (skew greatest now k : ℕ) (e : ServerEvent) (s : Server) (c
     → max s.last now ≤ greatest → IsThere k e c → IsNoneOfLed e → ClusterStands skew greatest c → (step s now e).out.note ≢ Strange
 others_plain skew greatest now k e s c at before there none h =
     event_note skew greatest k (begun_at now k s c) (begun now s) (get_here c.servers k s (begun now s) at)
-        (begins_stands skew greatest now k s c at before h) e (there_begun now k s e c there) none
+    (begins_stands skew greatest now k s c at before h) e (there_begun now k s e c there) none
