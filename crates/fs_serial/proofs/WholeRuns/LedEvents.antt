@@ -40,7 +40,8 @@ use Rattle.fs_serial.specs.Conclusions.{after_concluded, with_items}
 use Rattle.fs_serial.specs.LaterSteps.{TellsItems, after_step_later}
 use Rattle.fs_serial.specs.Leading.{LedHolds}
 use Rattle.fs_serial.specs.Meanwhile.{ClusterStands}
-use Rattle.fs_serial.proofs.DecidedEffects.DecideSeen.{decide_stands, ends_stay}
+use Rattle.fs_serial.proofs.DecidedEffects.DecideSeen.{decide_stands}
+use Rattle.fs_serial.proofs.Transactions.SeenMeanwhile.{ends_same}
 use Rattle.fs_serial.proofs.Lists.SetAt.{In_without, get_here, set_twice}
 use Rattle.fs_serial.proofs.Transactions.AwaitedWords.{decide_awaited, prepare_awaited}
 use Rattle.fs_serial.proofs.Transactions.DecisionPlaces.{decided_places}
@@ -197,7 +198,7 @@ module _ (skew greatest k : ℕ) (c : Cluster) (s : Server) (at : slice_get c.se
         });
         none = refl;
         undecided = λ ss. refl;
-        ends = λ y. ends_stay c.servers k s t at (voted_leading v x s) (voted_rows v x s).ending y (c.lines y);
+        ends = λ y. ends_same c.servers k s t at (voted_leading v x s) (voted_rows v x s).ending y (c.lines y);
         addressed = h.addressed;
       })
       (subst (λ z. LedHolds (after_step k (event.FromPeer from (peer.Prepare m)) z c)) same
