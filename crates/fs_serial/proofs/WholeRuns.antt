@@ -10,3 +10,16 @@ pub mod Strange
 pub mod AnyReadings
 pub mod LedKept
 pub mod LedDecisions
+pub mod LedWorlds
+pub mod LedEvents
+pub mod LedEnds
+pub mod LedVotes
+pub mod LedQuestions
+pub mod LaterEvents
+pub mod LedAnswers
+pub mod LedStillDecided
+pub mod RunsMeanwhile
+pub mod EventsMeanwhile
+pub mod FairMeanwhile
+pub mod StrangeMeanwhile
+pub mod AnyMeanwhile

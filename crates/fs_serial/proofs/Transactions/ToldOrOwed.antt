@@ -129,10 +129,10 @@ module _ (k skew greatest : ℕ) (c : Cluster) (s : Server) (at : slice_get c.se
   abbrev asks : ClientMsg
   asks = Lead (lead_of m)
 
-  led_is : (c.lines by).client.led ≡ Some m
+  pub led_is : (c.lines by).client.led ≡ Some m
   led_is = leads.client.led
 
-  taken_here : In asks (taken_at by (Some m) s)
+  pub taken_here : In asks (taken_at by (Some m) s)
   taken_here =
       In_all (λ (z : Leading). question_of (Some m)) asks l (filter own s.leading) (kept_in own l s.leading there (itself by.0)) (inl refl)
 
@@ -148,10 +148,10 @@ module _ (k skew greatest : ℕ) (c : Cluster) (s : Server) (at : slice_get c.se
 
   -- ## It asks for nothing else
 
-  counted : length (messages (c.lines by).up) + length (taken_leads by (c.lines by).client.led c.servers) ≡ 1
+  pub counted : length (messages (c.lines by).up) + length (taken_leads by (c.lines by).client.led c.servers) ≡ 1
   counted = sym (length-append (messages (c.lines by).up) (taken_leads by (c.lines by).client.led c.servers)) ∙ ap length its_up
 
-  asks_no_more : messages (c.lines by).up ≡ []
+  pub asks_no_more : messages (c.lines by).up ≡ []
   asks_no_more =
       let some : 1 ≤ length (taken_leads by (c.lines by).client.led c.servers) =
       some_there asks (taken_leads by (c.lines by).client.led c.servers) taken_some in
@@ -181,7 +181,7 @@ module _ (k skew greatest : ℕ) (c : Cluster) (s : Server) (at : slice_get c.se
           absurd (cc wrong)
       by_test false e = refl
 
-  none_left : filter own (without_leading t s.leading) ≡ []
+  pub none_left : filter own (without_leading t s.leading) ≡ []
   none_left = none_stay own (without_leading t s.leading) (λ z i. let q = in_without_leading t s.leading z i in not_its z q.0 q.1)
 
   taken_gone : taken_leads by (c.lines by).client.led servers ≡ []
@@ -201,7 +201,7 @@ module _ (k skew greatest : ℕ) (c : Cluster) (s : Server) (at : slice_get c.se
       cc
 
   module _ (y : Session) (off : (by.0 == y.0) ≡ false) where
-    others_led : filter (λ (z : Leading). z.leader.session.0 == y.0) (without_leading t s.leading)
+    pub others_led : filter (λ (z : Leading). z.leader.session.0 == y.0) (without_leading t s.leading)
         ≡ filter (λ (z : Leading). z.leader.session.0 == y.0) s.leading
     others_led = left_same (λ (z : Leading). z.leader.session.0 == y.0) (λ (z : Leading). not (same_txn z.leader.txn t)) s.leading
         (λ z i e. stays z i e (same_txn z.leader.txn t) refl)

@@ -1,0 +1,169 @@
+-- A session asks for an operation to be led, and it is led or put off: all that holds of the cluster stays.
+use Rattle.std.proofs.Common.{◌≡◌, ◌<◌, ◌+◌, ℕ, true, false, List, [], ◌∷◌, ◌++◌, refl, sym, ap, ◌∙◌, subst}
+use Rattle.std.specs.Prelude.{Option, Some, None, length, slice_get, slice_set}
+use Rattle.std.proofs.lemmas.Grind.{flat_map-append}
+use Rattle.fs_ident.specs.declared.actor.Peer.{Peer}
+use Rattle.fs_ident.specs.declared.actor.Session.{Session}
+use Rattle.fs_ident.specs.declared.actor.TxnNo.{TxnNo}
+use Rattle.fs_ident.proofs.Standing.{In-got}
+use Rattle.fs_field.specs.declared.row.Row.{Row}
+use Rattle.fs_field.specs.declared.used.Part.{Part}
+use Rattle.fs_map.specs.Map.{server_of}
+use Rattle.fs_msg.specs.declared.client_msg.ClientMsg.TheVariants.{Lead}
+use Rattle.fs_msg.specs.declared.item.Item.{Item}
+use Rattle.fs_msg.specs.declared.lead.Lead.{Lead as ToLead}
+use Rattle.fs_msg.specs.declared.msg.Msg.{Msg}
+use Rattle.fs_msg.specs.declared.server_note.ServerNote.TheVariants as note
+use Rattle.fs_record.specs.declared.led_end.Why.{Why}
+use Rattle.fs_server.specs.Begins.{Round, begins, first_round, leader_with, part_round, parts_in, round_of, rounds, txn_of}
+use Rattle.fs_server.specs.Counts.{ask_for}
+use Rattle.fs_server.specs.Follows.{to_server, vote_here}
+use Rattle.fs_server.specs.LeadingLaws.{CommitSplits}
+use Rattle.fs_server.specs.Leads.{lead_refusal, refuses}
+use Rattle.fs_server.specs.Concludes.{waits}
+use Rattle.fs_server.specs.Server.{Stepped, is_mine}
+use Rattle.fs_server.specs.declared.event.ServerEvent.{ServerEvent}
+use Rattle.fs_server.specs.declared.event.ServerEvent.TheVariants as event
+use Rattle.fs_server.specs.declared.state.Server.{Server}
+use Rattle.fs_txn.specs.Leading.{with_leading}
+use Rattle.fs_txn.specs.declared.leading.Leading.{Leading}
+use Rattle.fs_serial.specs.Cluster.{Cluster, InFlight, IsThere, after_step, in_flight_from, parcels_of, with_sent, without_question}
+use Rattle.fs_serial.specs.LaterSteps.{after_step_later}
+use Rattle.fs_serial.specs.Leading.{LedHolds}
+use Rattle.fs_serial.specs.Meanwhile.{ClusterStands}
+use Rattle.fs_serial.specs.Owed.{ends_with}
+use Rattle.fs_serial.specs.Seen.{IsAddressed}
+use Rattle.fs_serial.specs.Words.{decided_among, decided_by}
+use Rattle.fs_serial.proofs.LedOperations.LeadEvents.{none_more}
+use Rattle.fs_serial.proofs.Moves.Parcels.{parcels-append}
+use Rattle.fs_serial.proofs.Transactions.PlacesAfter.{AreRelocked, AreWords, both_words, no_words}
+use Rattle.fs_serial.proofs.Transactions.PlacesAfter.{one_word, relocked_not, relocked_then, voted_so}
+use Rattle.fs_serial.proofs.Transactions.PutOff.{put_off_keeps}
+use Rattle.fs_serial.proofs.Transactions.RoundsLocks.{round_by, sent_append}
+use Rattle.fs_serial.proofs.Transactions.RoundsStages.{rounds_lines, rounds_server}
+use Rattle.fs_serial.proofs.WholeRuns.Addressing.{taken_addressed}
+use Rattle.fs_serial.proofs.WholeRuns.LedEnds.{asked_then}
+use Rattle.fs_serial.proofs.WholeRuns.LedEvents.{goes_on_keeps}
+use Rattle.fs_serial.proofs.WholeRuns.LedKept.{all_keep_led}
+use Rattle.fs_serial.proofs.WholeRuns.LedWorlds.{quiet_stands}
+
+-- ## What the rounds send
+
+-- words to other servers, none of which hands anything over or decides anything
+abbrev IsAsking : ℕ → ℕ → List (Peer × Msg) → Type 0
+IsAsking k servers ms =
+    AreWords servers ms × ((parcels_of (in_flight_from k ms) ≡ []) × ((ss : List Server) → decided_among ss (in_flight_from k ms) ≡ []))
+
+asks_more : (k servers to : ℕ) (txn : TxnNo) (number : ℕ) (by : Session) (p : Part) (ms : List (Peer × Msg)) → to < servers
+    → IsAsking k servers ms → IsAsking k servers (ms ++ to_server to (ask_for txn number by p) ∷ [])
+asks_more k servers to txn number by p ms below q =
+    let ask : List (Peer × Msg) = to_server to (ask_for txn number by p) ∷ [] in (
+      both_words servers ms ask q.0 (one_word servers to (ask_for txn number by p) (record { there = below; names = tt; word = refl })),
+      (
+        ap parcels_of (sent_append k ms ask) ∙ parcels-append (in_flight_from k ms) (in_flight_from k ask) ∙ ap (λ ps. ps ++ []) q.1.0,
+        λ ss. ap (decided_among ss) (sent_append k ms ask)
+            ∙ flat_map-append (λ (g : InFlight). decided_by ss g.message) (in_flight_from k ms) (in_flight_from k ask)
+            ∙ ap (λ ds. ds ++ []) (q.1.1 ss),
+      ),
+    )
+
+rounds_ask : (k servers : ℕ) (txn : TxnNo) (number : ℕ) (by : Session) (ps : List Part) (r : Round)
+    → ((id : List ℕ) → server_of r.server.map id < servers) → IsAsking k servers r.send
+    → IsAsking k servers (rounds txn number by ps r).send
+rounds_ask k servers txn number by [] r named q = q
+rounds_ask k servers txn number by (p ∷ ps) r named q = rounds_ask k servers txn (number + 1) by ps (part_round txn number by p r)
+    (elim (is_mine r.server p.file) as (λ b. (id : List ℕ) → server_of (round_by txn number by p r b).server.map id < servers) [
+      | true ↦ named
+      | false ↦ named
+    ])
+    (elim (is_mine r.server p.file) as (λ b. IsAsking k servers (round_by txn number by p r b).send) [
+      | true ↦ q
+      | false ↦ asks_more k servers (server_of r.server.map p.file) txn number by p r.send (named p.file) q
+    ])
+
+rounds_relock : (txn : TxnNo) (number : ℕ) (by : Session) (ps : List Part) (r : Round) (rows : List Row) → AreRelocked rows r.server.rows
+    → AreRelocked rows (rounds txn number by ps r).server.rows
+rounds_relock txn number by [] r rows q = q
+rounds_relock txn number by (p ∷ ps) r rows q = rounds_relock txn (number + 1) by ps (part_round txn number by p r) rows
+    (elim (is_mine r.server p.file) as (λ b. AreRelocked rows (round_by txn number by p r b).server.rows) [
+      | true ↦ relocked_then rows r.server.rows _ q (voted_so (vote_here r.server by p) txn p.uses r.server.rows)
+      | false ↦ q
+    ])
+
+-- ## The question
+
+-- what the server makes of it: it leads the operation, or puts it off
+abbrev pub leads_or_refuses : Option Why → Session → ToLead → Server → Stepped
+leads_or_refuses None by m s = begins by m s
+leads_or_refuses (Some w) by m s = refuses by w s
+
+module _ (skew greatest k : ℕ) (c : Cluster) (s : Server) (at : slice_get c.servers k ≡ Some s) (h : ClusterStands skew greatest c)
+    (splits : CommitSplits) (by : Session) (m : ToLead) (comes : IsThere k (event.FromClient by (Lead m)) c) where
+  abbrev e : ServerEvent
+  e = event.FromClient by (Lead m)
+
+  -- nothing is admitted
+  abbrev with_replied : Stepped → (Session → List Item) → Cluster
+  with_replied x replied = record (after_step k e x c) { replied = replied }
+
+  abbrev r : Round
+  r = round_of by m s
+
+  abbrev new : Leading
+  new = record { leader = leader_with (txn_of s) by m r.votes; at = r.at }
+
+  abbrev first : Stepped
+  first = waits (note.Prepares (txn_of s)) new r.send r.server
+
+  left : r.server ≡ (let z : Server = record s { txns = s.txns + 1; rows = r.server.rows } in z)
+  left = rounds_server (txn_of s) 0 by (parts_in m) (first_round s)
+
+  asks : IsAsking k (length c.servers) r.send
+  asks = rounds_ask k (length c.servers) (txn_of s) 0 by (parts_in m) (first_round s) (h.places.named s (In-got c.servers k s at))
+      (no_words (length c.servers), (refl, λ ss. refl))
+
+  still : with_sent k r.send (without_question k e c.lines) ≡ without_question k e c.lines
+  still = rounds_lines k (txn_of s) 0 by (parts_in m) (first_round s) (without_question k e c.lines) refl
+
+  begun : lead_refusal s m ≡ None → ClusterStands skew greatest (after_step_later k e first c)
+  begun accepted =
+      quiet_stands skew greatest k c s first.server at h c.in_flight r.send (with_sent k r.send (without_question k e c.lines)) (record {
+        rows = record {
+          me = ap (λ (z : Server). z.me) left;
+          map = ap (λ (z : Server). z.map) left;
+          skew = ap (λ (z : Server). z.skew) left;
+          last = ap (λ (z : Server). z.last) left;
+          given = ap (λ (z : Server). z.given) left;
+          reaps = ap (λ (z : Server). z.reaps) left;
+          records = ap (λ (z : Server). z.records) left;
+          ending = ap (λ (z : Server). z.ending) left;
+          rows = rounds_relock (txn_of s) 0 by (parts_in m) (first_round s) s.rows (relocked_not s.rows);
+        };
+        parcels = refl;
+        decided = refl;
+        among = λ f i. i;
+        words = asks.0;
+        none = asks.1.0;
+        undecided = asks.1.1;
+        ends = λ y. ap (λ ls. ends_with y (slice_set c.servers k first.server) (ls y)) still
+            ∙ asked_then k skew greatest c s at h by m comes new refl refl first.server
+            (ap (λ (z : Server). with_leading new z.leading) left) (ap (λ (z : Server). z.ending) left) y;
+        addressed = subst (λ ls. (x : Session) → IsAddressed (ls x)) (sym still) (taken_addressed k e c.lines h.addressed);
+      })
+      (subst (λ replied. LedHolds (with_replied first replied)) (none_more by c.replied)
+      ((all_keep_led skew greatest k c s at h).begun by m comes accepted))
+
+  refused : (w : Why) → ClusterStands skew greatest (after_step_later k e (refuses by w s) c)
+  refused w =
+      subst (λ replied. ClusterStands skew greatest (with_replied (refuses by w s) replied)) (none_more by c.replied)
+      (put_off_keeps skew greatest k c s at h by m comes w)
+
+  pub lead_event : ClusterStands skew greatest (after_step_later k e (leads_or_refuses (lead_refusal s m) by m s) c)
+  lead_event = by_refusal (lead_refusal s m) refl
+    where
+      by_refusal : (o : Option Why) → lead_refusal s m ≡ o
+          → ClusterStands skew greatest (after_step_later k e (leads_or_refuses o by m s) c)
+      by_refusal None accepted =
+          goes_on_keeps skew greatest k c s at e (λ items replied. refl) splits (note.Prepares (txn_of s)) new r.send
+          r.server (begun accepted)
+      by_refusal (Some w) why = refused w

@@ -1,0 +1,154 @@
+-- A vote is told, and what a session asks is led or put off: all that holds of the cluster stays.
+use Rattle.std.proofs.Common.{◌≡◌, ◌<◌, ◌==◌, ℕ, Bool, true, false, List, [], ◌∷◌, cond, refl, sym, ap, ◌∙◌, subst}
+use Rattle.std.specs.Prelude.{Some, length, slice_get, slice_set}
+use Rattle.fs_ident.specs.In.{In}
+use Rattle.fs_ident.specs.declared.actor.Peer.{Peer}
+use Rattle.fs_ident.specs.declared.actor.Session.{Session}
+use Rattle.fs_ident.proofs.Passing.{found}
+use Rattle.fs_ident.proofs.Standing.{In-got}
+use Rattle.fs_field.specs.declared.row.Row.{Row}
+use Rattle.fs_field.specs.declared.used.Part.{Part}
+use Rattle.fs_field.specs.declared.vote.Vote.{Vote}
+use Rattle.fs_field.specs.declared.vote.Vote.TheVariants as vote
+use Rattle.fs_map.specs.Map.{server_of}
+use Rattle.fs_msg.specs.declared.msg.Msg.{Msg}
+use Rattle.fs_msg.specs.declared.peer_msg.PeerMsg.TheVariants as peer
+use Rattle.fs_msg.specs.declared.server_note.ServerNote.{ServerNote}
+use Rattle.fs_msg.specs.declared.server_note.ServerNote.TheVariants as note
+use Rattle.fs_msg.specs.declared.voted.Voted.{Voted as VotedMsg}
+use Rattle.fs_server.specs.Concludes.{waits}
+use Rattle.fs_server.specs.Counts.{after_own_vote, ask_for, asked_at, comes_home, counts}
+use Rattle.fs_server.specs.Counts.{counts_own, seeks, sent_on, vote_step, voted, with_vote}
+use Rattle.fs_server.specs.Follows.{to_server, vote_here}
+use Rattle.fs_server.specs.LeadingLaws.{CommitSplits}
+use Rattle.fs_server.specs.Server.{is_mine}
+use Rattle.fs_server.specs.declared.event.ServerEvent.{ServerEvent}
+use Rattle.fs_server.specs.declared.event.ServerEvent.TheVariants as event
+use Rattle.fs_server.specs.declared.state.Server.{Server}
+use Rattle.fs_txn.specs.Leading.{with_leading}
+use Rattle.fs_txn.specs.Votes.{Votes, is_moved, votes_after}
+use Rattle.fs_txn.specs.declared.leading.Leading.{Leading}
+use Rattle.fs_serial.specs.Cluster.{Cluster, InFlight, IsThere, after_step}
+use Rattle.fs_serial.specs.Cluster.{in_flight_from, is_between, parcels_of, with_sent, without_first}
+use Rattle.fs_serial.specs.LaterSteps.{after_step_later}
+use Rattle.fs_serial.specs.Leading.{LedHolds}
+use Rattle.fs_serial.specs.Meanwhile.{ClusterStands}
+use Rattle.fs_serial.specs.Owed.{ends_with}
+use Rattle.fs_serial.specs.Places.{VoteNames}
+use Rattle.fs_serial.specs.Seen.{IsAddressed}
+use Rattle.fs_serial.specs.Words.{decided_among}
+use Rattle.fs_serial.proofs.Lists.SetAt.{In_without}
+use Rattle.fs_serial.proofs.Transactions.AwaitedWords.{IsAwaited, vote_awaited, vote_is}
+use Rattle.fs_serial.proofs.Transactions.PlacesAfter.{AreRelocked, AreWords, no_words, one_word, relocked_not, voted_so, word_taken}
+use Rattle.fs_serial.proofs.WholeRuns.LedEnds.{asked_still}
+use Rattle.fs_serial.proofs.WholeRuns.LedEvents.{goes_on_keeps}
+use Rattle.fs_serial.proofs.WholeRuns.LedKept.{all_keep_led}
+use Rattle.fs_serial.proofs.WholeRuns.LedWorlds.{quiet_stands, undecided_taken}
+
+module _ (skew greatest k : ℕ) (c : Cluster) (s : Server) (at : slice_get c.servers k ≡ Some s) (h : ClusterStands skew greatest c)
+    (splits : CommitSplits) (from : ℕ) (m : VotedMsg) (comes : IsThere k (event.FromPeer from (peer.Vote m)) c) where
+  abbrev e : ServerEvent
+  e = event.FromPeer from (peer.Vote m)
+
+  abbrev f : InFlight
+  f = record { from = from; to = k; message = peer.Vote m }
+
+  here : In s c.servers
+  here = In-got c.servers k s at
+
+  q : IsAwaited s m
+  q = vote_awaited k from c s at h.led m comes
+
+  abbrev l : Leading
+  l = q.leading
+
+  -- it waits then
+  module _ (votes : Votes) (places : List ℕ) (rows : List Row) (relocked : AreRelocked s.rows rows) (n : ServerNote)
+      (ms : List (Peer × Msg)) (words : AreWords (length c.servers) ms) (none : parcels_of (in_flight_from k ms) ≡ [])
+      (undecided : (ss : List Server) → decided_among ss (in_flight_from k ms) ≡ []) (still : with_sent k ms c.lines ≡ c.lines) where
+    abbrev new : Leading
+    new = record { leader = record l.leader { votes = votes }; at = places }
+
+    abbrev t : Server
+    t = record s { rows = rows; leading = with_leading new s.leading }
+
+    waits_stands : LedHolds (after_step k e (waits n new ms (record s { rows = rows })) c)
+        → ClusterStands skew greatest (after_step k e (waits n new ms (record s { rows = rows })) c)
+    waits_stands led =
+        quiet_stands skew greatest k c s t at h (without_first (is_between from k) c.in_flight) ms (with_sent k ms c.lines) (record {
+          rows = record {
+            me = refl;
+            map = refl;
+            skew = refl;
+            last = refl;
+            given = refl;
+            reaps = refl;
+            records = refl;
+            ending = refl;
+            rows = relocked;
+          };
+          parcels = word_taken (is_between from k) c.in_flight f comes refl;
+          decided = undecided_taken c.servers (is_between from k) c.in_flight f comes refl;
+          among = λ z i. In_without (is_between from k) c.in_flight z i;
+          words = words;
+          none = none;
+          undecided = undecided;
+          ends = λ y. ap (λ ls. ends_with y (slice_set c.servers k t) (ls y)) still
+              ∙ asked_still k skew greatest c s at h l q.among votes places t refl refl y;
+          addressed = subst (λ ls. (x : Session) → IsAddressed (ls x)) (sym still) h.addressed;
+        }) led
+
+  -- a vote that is no move is counted
+  counted : is_moved m.vote ≡ false → ClusterStands skew greatest (after_step_later k e (counts m.number m.vote l s) c)
+  counted stays =
+      goes_on_keeps skew greatest k c s at e (λ items replied. refl) splits (note.Waits l.leader.txn) (with_vote m.number m.vote l) [] s
+      (waits_stands (votes_after l.leader.votes m.number m.vote) l.at s.rows (relocked_not s.rows) (note.Waits l.leader.txn) []
+      (no_words (length c.servers)) refl (λ ss. refl) refl
+      ((all_keep_led skew greatest k c s at h).counted from m comes l (note.Waits l.leader.txn) q.led q.awaited stays))
+
+  module _ (p : Part) (part : slice_get l.leader.parts m.number ≡ Some p) (moved : is_moved m.vote ≡ true) where
+    sought : (to : ℕ) → (to == s.me) ≡ false → to < length c.servers
+        → ClusterStands skew greatest (after_step_later k e (seeks m.number to p l s) c)
+    sought to off below =
+        waits_stands l.leader.votes (slice_set l.at m.number to) s.rows (relocked_not s.rows) (note.Seeks l.leader.txn to)
+        (to_server to (ask_for l.leader.txn m.number l.leader.session p) ∷ [])
+        (one_word (length c.servers) to (ask_for l.leader.txn m.number l.leader.session p)
+        (record { there = below; names = tt; word = refl })) refl (λ ss. refl) refl
+        ((all_keep_led skew greatest k c s at h).sought from m comes l p to q.led q.awaited moved part off)
+
+    own : is_mine s p.file ≡ true
+        → ClusterStands skew greatest (after_step_later k e (counts_own m.number p (vote_here s l.leader.session p) l s) c)
+    own mine =
+        let v : Vote = vote_here s l.leader.session p in
+        goes_on_keeps skew greatest k c s at e (λ items replied. refl) splits (note.Waits l.leader.txn)
+        (with_vote m.number v (asked_at m.number s.me l)) [] (after_own_vote l.leader.txn p v s)
+        (waits_stands (votes_after l.leader.votes m.number v) (slice_set l.at m.number s.me)
+        (after_own_vote l.leader.txn p v s).rows (voted_so v l.leader.txn p.uses s.rows) (note.Waits l.leader.txn) []
+        (no_words (length c.servers)) refl (λ ss. refl) refl
+        ((all_keep_led skew greatest k c s at h).own from m comes l p (note.Waits l.leader.txn) q.led q.awaited moved part mine))
+
+    home : (b : Bool) → is_mine s p.file ≡ b → ClusterStands skew greatest (after_step_later k e
+        (cond b (counts_own m.number p (vote_here s l.leader.session p) l s) (seeks m.number (server_of s.map p.file) p l s)) c)
+    home true mine = own mine
+    home false off = sought (server_of s.map p.file) off (h.places.named s here p.file)
+
+    sent : (to : ℕ) → to < length c.servers → (b : Bool) → (to == s.me) ≡ b
+        → ClusterStands skew greatest (after_step_later k e (cond b (comes_home m.number p l s) (seeks m.number to p l s)) c)
+    sent to below true is = home (is_mine s p.file) refl
+    sent to below false off = sought to off below
+
+  by_vote : (v : Vote) → m.vote ≡ v → ClusterStands skew greatest (after_step_later k e (voted m.number v l s) c)
+  by_vote vote.Yes is =
+      subst (λ v. ClusterStands skew greatest (after_step_later k e (counts m.number v l s) c)) is (counted (ap is_moved is))
+  by_vote (vote.Ended a b d) is =
+      subst (λ v. ClusterStands skew greatest (after_step_later k e (counts m.number v l s) c)) is (counted (ap is_moved is))
+  by_vote (vote.PathsOut n) is =
+      subst (λ v. ClusterStands skew greatest (after_step_later k e (counts m.number v l s) c)) is (counted (ap is_moved is))
+  by_vote (vote.Moved prefix to) is =
+      let names : VoteNames (length c.servers) m.vote = (h.places.goes f (found (is_between from k) c.in_flight f comes).0).names in
+      subst (λ o. ClusterStands skew greatest (after_step_later k e (sent_on m.number to o l s) c)) (sym q.part)
+      (sent q.wanted q.part (ap is_moved is) to (subst (VoteNames (length c.servers)) is names) (to == s.me) refl)
+
+  pub vote_event : ClusterStands skew greatest (after_step_later k e (vote_step m s) c)
+  vote_event =
+      subst (λ x. ClusterStands skew greatest (after_step_later k e x c)) (sym (vote_is k from c s at h.led m q)) (by_vote m.vote refl)
