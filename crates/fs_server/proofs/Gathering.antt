@@ -22,7 +22,7 @@ use Rattle.fs_txn.proofs.Locking.{locked, none_locked, stays}
 use Rattle.fs_server.specs.Begins.{Round, asked_part, first_round, own_part, part_round, rounds}
 use Rattle.fs_server.specs.Follows.{vote_here}
 use Rattle.fs_server.specs.Gathered.{gathered_by, keeping, uses_voted}
-use Rattle.fs_server.specs.Leads.{has_all}
+use Rattle.fs_server.specs.Laws.{has_all}
 use Rattle.fs_server.specs.Server.{is_mine}
 use Rattle.fs_server.specs.Ships.{first_gone, has_row}
 use Rattle.fs_server.specs.declared.begins.Gathered.{Gathered}

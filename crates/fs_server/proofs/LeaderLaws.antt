@@ -7,34 +7,47 @@ use Rattle.std.proofs.lemmas.Bool.Decides.{nat_tests}
 use Rattle.std.proofs.lemmas.List.{append-nil}
 use Rattle.fs_ident.specs.In.{In}
 use Rattle.fs_ident.specs.declared.actor.Peer.{Peer}
+use Rattle.fs_ident.specs.declared.actor.Session.{Session}
 use Rattle.fs_ident.specs.declared.actor.TxnNo.{TxnNo}
 use Rattle.fs_ident.proofs.Passing.{found}
 use Rattle.fs_field.specs.Table.{is_lock_of, same_txn}
 use Rattle.fs_field.specs.declared.effect.Effect.{Effect}
 use Rattle.fs_field.specs.declared.row.Row.{Row}
+use Rattle.fs_field.specs.declared.used.Part.{Part}
+use Rattle.fs_field.specs.declared.vote.Vote.{Vote}
+use Rattle.fs_field.specs.declared.vote.Vote.TheVariants.{Yes, Ended, Moved, PathsOut}
+use Rattle.fs_map.specs.Map.{server_of}
 use Rattle.fs_model.specs.declared.reply.Reply.TheVariants.{Renamed}
 use Rattle.fs_msg.specs.declared.answer.Answer.TheVariants as answer
 use Rattle.fs_msg.specs.declared.done.Done.{Done}
+use Rattle.fs_msg.specs.declared.lead.Lead.{Lead}
 use Rattle.fs_msg.specs.declared.msg.Msg.{Msg}
 use Rattle.fs_msg.specs.declared.peer_msg.PeerMsg.TheVariants as peer
+use Rattle.fs_msg.specs.declared.server_note.ServerNote.{ServerNote}
+use Rattle.fs_msg.specs.declared.server_note.ServerNote.TheVariants as note
 use Rattle.fs_msg.specs.declared.voted.Voted.{Voted}
 use Rattle.fs_record.specs.Applied.{records_after_all}
 use Rattle.fs_record.specs.declared.led_end.LedEnd.{LedEnd}
 use Rattle.fs_txn.specs.Deciding.{decision, keeps_rows, told_effects}
 use Rattle.fs_txn.specs.Leading.{awaits_done, elsewhere, ending_of, leading_of, own_effects, own_parts, said_yes, without_done, yes_from}
 use Rattle.fs_txn.specs.Locks.{rows_unlocked}
-use Rattle.fs_txn.specs.Votes.{Votes}
+use Rattle.fs_txn.specs.Votes.{Votes, awaits, is_full}
+use Rattle.fs_txn.specs.declared.decision.Decision.{Decision}
 use Rattle.fs_txn.specs.declared.decision.Decision.TheVariants.{Commit, Abort}
 use Rattle.fs_txn.specs.declared.leading.Ending.{Ending}
 use Rattle.fs_txn.specs.declared.leading.Leading.{Leading}
 use Rattle.fs_txn.proofs.Keys.{txn_is}
-use Rattle.fs_server.specs.Concludes.{admitted_of, concludes, end_of_decision, ends_now, tells}
-use Rattle.fs_server.specs.Counts.{done_of, done_step, done_with, vote_of, vote_step, voted}
-use Rattle.fs_server.specs.Follows.{to_server}
+use Rattle.fs_server.specs.Begins.{Round, asked_part, first_round, leader_with, own_part, part_round, parts_in, round_of, rounds, txn_of}
+use Rattle.fs_server.specs.Concludes.{admitted_of, concludes, end_of_decision, ends_now, goes_on, tells, waits}
+use Rattle.fs_server.specs.Counts.{after_own_vote, asked_at, comes_home, counts, counts_own, done_of, done_step, done_with, seeks, sent_on}
+use Rattle.fs_server.specs.Counts.{vote_of, vote_step, voted, with_vote}
+use Rattle.fs_server.specs.Follows.{to_server, vote_here}
 use Rattle.fs_server.specs.LeadingLaws.{awaits_this, awaits_vote, of_number}
-use Rattle.fs_server.specs.Server.{Stepped, strange, to_session}
+use Rattle.fs_server.specs.Leads.{lead_step}
+use Rattle.fs_server.specs.Server.{Stepped, is_mine, strange, to_session}
 use Rattle.fs_server.specs.declared.state.Server.{Server}
 use Rattle.fs_server.proofs.Following.{none_kept}
+use Rattle.fs_server.proofs.Leading.{LeadEnds, begun, lead_ends, put_off, unled}
 
 -- ## What nobody awaits
 
@@ -183,3 +196,86 @@ abort_here l sent s e d = (
 pub abort_told : (txn : TxnNo) (e : LedEnd) (out : List (ℕ × ℕ)) → tells txn (Abort e) out
     ≡ map (λ (x : ℕ × ℕ). to_server x.1 (peer.Decide (record { txn = txn; number = x.0; effects = [] }))) out
 abort_told txn e out = refl
+
+-- ## Nothing is admitted
+
+concludes_unadmitted : (l : Leading) (sent : List (Peer × Msg)) (s : Server) → (concludes l sent s).out.admitted ≡ []
+    → (concludes l sent s).server.records ≡ s.records
+concludes_unadmitted l sent s = at (decision l.leader None)
+  where
+    at : (d : Decision) → admitted_of d l.leader ≡ [] → records_after_all s.records (own_effects s.me l d) ≡ s.records
+    at (Commit r effects) h = absurd (cc h)
+    at (Abort e) h = ap (records_after_all s.records) (abort_changes_none s.me l e)
+
+goes_on_unadmitted : (n : ServerNote) (l : Leading) (sent : List (Peer × Msg)) (s : Server) → (goes_on n l sent s).out.admitted ≡ []
+    → (goes_on n l sent s).server.records ≡ s.records
+goes_on_unadmitted n l sent s = at (is_full l.leader.votes)
+  where
+    at : (b : Bool) → (cond b (concludes l sent s) (waits n l sent s)).out.admitted ≡ []
+        → (cond b (concludes l sent s) (waits n l sent s)).server.records ≡ s.records
+    at true h = concludes_unadmitted l sent s h
+    at false h = refl
+
+-- parts that vote or are asked for change no record
+rounds_records : (txn : TxnNo) (number : ℕ) (by : Session) (ps : List Part) (r : Round)
+    → (rounds txn number by ps r).server.records ≡ r.server.records
+rounds_records txn number by [] r = refl
+rounds_records txn number by (p ∷ ps) r =
+    rounds_records txn (number + 1) by ps (part_round txn number by p r) ∙ at (is_mine r.server p.file)
+  where
+    at : (b : Bool) → (cond b (own_part txn p (vote_here r.server by p) r)
+        (asked_part txn number by p (server_of r.server.map p.file) r)).server.records ≡ r.server.records
+    at true = refl
+    at false = refl
+
+pub lead_unadmitted : (by : Session) (m : Lead) (s : Server) → (lead_step by m s).out.admitted ≡ []
+    → (lead_step by m s).server.records ≡ s.records
+lead_unadmitted by m s = at (lead_step by m s) (lead_ends by m s)
+  where
+    at : (x : Stepped) → LeadEnds by m s x → x.out.admitted ≡ [] → x.server.records ≡ s.records
+    at x (unled l) h = refl
+    at x (put_off w l r) h = refl
+    at x (begun l r) h =
+        let g : Round = round_of by m s in
+        goes_on_unadmitted (note.Prepares (txn_of s)) (record { leader = leader_with (txn_of s) by m g.votes; at = g.at }) g.send g.server h
+        ∙ rounds_records (txn_of s) 0 by (parts_in m) (first_round s)
+
+pub vote_unadmitted : (m : Voted) (s : Server) → (vote_step m s).out.admitted ≡ [] → (vote_step m s).server.records ≡ s.records
+vote_unadmitted m s = at (leading_of m.txn s.leading)
+  where
+    counted : (v : Vote) (l : Leading) (t : Server) → (counts m.number v l t).out.admitted ≡ []
+        → (counts m.number v l t).server.records ≡ t.records
+    counted v l t = goes_on_unadmitted (note.Waits l.leader.txn) (with_vote m.number v l) [] t
+
+    home : (p : Part) (l : Leading) (b : Bool) → (cond b (counts_own m.number p (vote_here s l.leader.session p) l s)
+        (seeks m.number (server_of s.map p.file) p l s)).out.admitted ≡ []
+        → (cond b (counts_own m.number p (vote_here s l.leader.session p) l s)
+        (seeks m.number (server_of s.map p.file) p l s)).server.records ≡ s.records
+    home p l true h = counted (vote_here s l.leader.session p) (asked_at m.number s.me l)
+        (after_own_vote l.leader.txn p (vote_here s l.leader.session p) s) h
+    home p l false h = refl
+
+    sent : (to : ℕ) (l : Leading) (o : Option Part) → (sent_on m.number to o l s).out.admitted ≡ []
+        → (sent_on m.number to o l s).server.records ≡ s.records
+    sent to l None h = refl
+    sent to l (Some p) h = by (to == s.me) h
+      where
+        by : (b : Bool) → (cond b (comes_home m.number p l s) (seeks m.number to p l s)).out.admitted ≡ []
+            → (cond b (comes_home m.number p l s) (seeks m.number to p l s)).server.records ≡ s.records
+        by true h = home p l (is_mine s p.file) h
+        by false h = refl
+
+    told : (v : Vote) (l : Leading) → (voted m.number v l s).out.admitted ≡ [] → (voted m.number v l s).server.records ≡ s.records
+    told Yes l h = counted Yes l s h
+    told (Ended lease until now) l h = counted (Ended lease until now) l s h
+    told (Moved prefix to) l h = sent to l (slice_get l.leader.parts m.number) h
+    told (PathsOut lease) l h = counted (PathsOut lease) l s h
+
+    at : (o : Option Leading) → (vote_of o m s).out.admitted ≡ [] → (vote_of o m s).server.records ≡ s.records
+    at None h = refl
+    at (Some l) h = by (awaits l.leader m.number) h
+      where
+        by : (b : Bool) → (cond b (voted m.number m.vote l s) (strange s)).out.admitted ≡ []
+            → (cond b (voted m.number m.vote l s) (strange s)).server.records ≡ s.records
+        by true h = told m.vote l h
+        by false h = refl

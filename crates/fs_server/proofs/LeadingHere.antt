@@ -1,7 +1,6 @@
 -- A transaction that begins and ends in one event: all its parts are here.
 use Rattle.std.proofs.Common.{◌≡◌, ◌==◌, ◌&&◌, ◌+◌, ℕ, Bool, true, false, not, List, []}
 use Rattle.std.proofs.Common.{◌∷◌, ◌++◌, cond, length, map, refl, ap, ap₂, sym, ◌∙◌, inl, inr}
-use mathlib.Core.Path.{fun_ext}
 use Rattle.std.specs.Prelude.{Option, Some, None, is_some}
 use Rattle.std.specs.List.{filter, find, flat_map}
 use Rattle.std.proofs.lemmas.List.{append-nil, length-map}
@@ -25,7 +24,6 @@ use Rattle.fs_txn.specs.Preparing.{is_used, row_locked, rows_locked}
 use Rattle.fs_txn.specs.Votes.{Votes, is_full}
 use Rattle.fs_txn.specs.declared.decision.Decision.{Decision}
 use Rattle.fs_txn.specs.declared.decision.Decision.TheVariants.{Commit, Abort}
-use Rattle.fs_txn.specs.declared.leader.Leader.{Leader}
 use Rattle.fs_txn.specs.declared.leading.Ending.{Ending}
 use Rattle.fs_txn.specs.declared.leading.Leading.{Leading}
 use Rattle.fs_txn.proofs.Keys.{txn_is, txn_itself}
@@ -35,15 +33,13 @@ use Rattle.fs_server.specs.Begins.{begins, begun_with, leader_with, parts_in, ro
 use Rattle.fs_server.specs.Concludes.{admitted_of, concludes, end_note, end_of_decision, ends_with, waits}
 use Rattle.fs_server.specs.Follows.{vote_here}
 use Rattle.fs_server.specs.Gathered.{gathered_by, keeping}
-use Rattle.fs_server.specs.Laws.{admitted_by, all_effects, concluded, leader_of}
+use Rattle.fs_server.specs.Laws.{all_effects, concluded, has_all, votes_here}
 use Rattle.fs_server.specs.LeadingLaws.{HasNextTxn, IsNewTxn}
-use Rattle.fs_server.specs.Leads.{has_all, is_led, lead_refusal, lead_step}
-use Rattle.fs_server.specs.Server.{to_session}
+use Rattle.fs_server.specs.Leads.{is_led, lead_refusal, lead_step, leads_unless}
+use Rattle.fs_server.specs.Server.{strange, to_session}
 use Rattle.fs_server.specs.declared.state.Server.{Server}
-use Rattle.fs_server.proofs.Following.{vote_is}
 use Rattle.fs_server.proofs.Gathering.{all_gathered, all_own, first_gathered, nothing_gathered, own_votes, uses_kept}
 use Rattle.fs_server.proofs.LeaderLaws.{abort_changes_none}
-use Rattle.fs_server.proofs.Leading.{decided_here, none_refuses}
 use Rattle.fs_server.proofs.Splitting.{commit_effects, picked, told_picked}
 
 -- ## Rows that are locked and unlocked again
@@ -120,7 +116,7 @@ never_kept false x y = refl
 
 module _ (by : Session) (m : Lead) (s : Server) where
   abbrev votes : Votes
-  votes = own_votes s by (parts_in m)
+  votes = votes_here by m s
 
   abbrev used : List Use
   used = uses_kept s by (parts_in m)
@@ -162,10 +158,6 @@ module _ (by : Session) (m : Lead) (s : Server) where
   full_here = ap (λ b. cond b (concludes its [] (keeping true (txn_of s) used s))
       (waits (note.Prepares (txn_of s)) its [] (keeping true (txn_of s) used s))) (all_full s by (parts_in m))
 
-  admitted_so : (d : Decision) → admitted_of d its.leader ≡ admitted_by d by m
-  admitted_so (Commit r effects) = refl
-  admitted_so (Abort e) = refl
-
   concluded_here : HasNextTxn s → concludes its [] (keeping true (txn_of s) used s) ≡ concluded decided by m s
   concluded_here n =
       ap (λ out. ends_with decided out its [] (keeping true (txn_of s) used s)) (none_elsewhere s.me 0 votes (parts_in m))
@@ -182,18 +174,15 @@ module _ (by : Session) (m : Lead) (s : Server) where
         out = record {
           note = end_note (txn_of s) (end_of_decision decided);
           send = to_session by (answer.Led (end_of_decision decided)) ∷ [];
-          admitted = admitted_so decided i;
+          admitted = admitted_of decided its.leader;
         };
       }
 
-  -- its votes are those of the rows of both tables
-  leader_so : its.leader ≡ leader_of by m s
-  leader_so = ap (λ (f : Part → _). leader_with (txn_of s) by m (map f (parts_in m))) (fun_ext (λ p. ap Some (vote_is s by p)))
-
-  pub ends_at_once : is_led m.op ≡ true → lead_refusal s m ≡ None → HasNextTxn s → begins by m s ≡ lead_step by m s
-  ends_at_once l r n =
-      gathered_here (none_refuses s m r).1.1
+  pub decided_here : is_led m.op ≡ true → lead_refusal s m ≡ None → has_all s (parts_in m) ≡ true → HasNextTxn s
+      → lead_step by m s ≡ concluded decided by m s
+  decided_here l r h n =
+      ap (λ b. cond b (leads_unless (lead_refusal s m) by m s) (strange s)) l
+      ∙ ap (λ o. leads_unless o by m s) r
+      ∙ gathered_here h
       ∙ full_here
       ∙ concluded_here n
-      ∙ ap (λ (x : Leader). concluded (decision x None) by m s) leader_so
-      ∙ sym (decided_here by m s l r)

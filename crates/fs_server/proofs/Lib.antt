@@ -22,6 +22,6 @@ mod Counting
 mod Goes
 mod Gathering
 mod LeaderLaws
-mod Splitting
+pub mod Splitting
 mod LeadingHere
 mod Beginning

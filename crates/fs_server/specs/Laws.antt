@@ -1,10 +1,8 @@
 -- What the laws of a server say.
-use Rattle.std.specs.Prelude.{◌≡◌, ◌⊎◌, ℕ, ◌+◌, List, [], ◌∷◌, ◌++◌, map, Option, Some, None, is_some, if◌then◌else◌}
-use Rattle.std.specs.List.{flat_map}
+use Rattle.std.specs.Prelude.{◌≡◌, ◌⊎◌, ℕ, ◌+◌, Bool, List, [], ◌∷◌, ◌++◌, map, Option, Some, None, is_some, if◌then◌else◌}
+use Rattle.std.specs.List.{flat_map, list_all}
 use Rattle.fs_ident.specs.Ident.{child}
-use Rattle.fs_ident.specs.declared.actor.Peer.TheVariants.{Client}
 use Rattle.fs_ident.specs.declared.actor.Session.{Session}
-use Rattle.fs_ident.specs.declared.actor.TxnNo.{TxnNo}
 use Rattle.fs_field.specs.declared.asked.Asked.{Asked}
 use Rattle.fs_field.specs.declared.asked.Asked.TheVariants.{Granted, Wait, Locked}
 use Rattle.fs_field.specs.declared.field.Field.{Field}
@@ -18,18 +16,15 @@ use Rattle.fs_msg.specs.declared.answer.Answer.TheVariants as answer
 use Rattle.fs_msg.specs.declared.answer.Grant.{Grant}
 use Rattle.fs_msg.specs.declared.end.End.{End}
 use Rattle.fs_msg.specs.declared.end.End.TheVariants as end
-use Rattle.fs_msg.specs.declared.item.Item.{Item}
 use Rattle.fs_msg.specs.declared.lead.Lead.{Lead}
 use Rattle.fs_record.specs.Applied.{records_after_all}
-use Rattle.fs_txn.specs.Preparing.{vote_on}
+use Rattle.fs_txn.specs.Votes.{Votes}
 use Rattle.fs_txn.specs.declared.decision.Decision.{Decision}
 use Rattle.fs_txn.specs.declared.decision.Decision.TheVariants.{Commit, Abort}
-use Rattle.fs_txn.specs.declared.leader.Leader.{Leader}
-use Rattle.fs_txn.specs.declared.mode.Mode2.TheVariants.{Plain}
 use Rattle.fs_server.specs.Asks.{Asking, answer_to, kind_for}
-use Rattle.fs_server.specs.Concludes.{end_note, end_of_decision}
-use Rattle.fs_server.specs.Leads.{parts_in, txn_of}
-use Rattle.fs_server.specs.Rows.{rows_off_modes, rows_on_modes}
+use Rattle.fs_server.specs.Begins.{leader_with, parts_in, txn_of}
+use Rattle.fs_server.specs.Concludes.{admitted_of, end_note, end_of_decision}
+use Rattle.fs_server.specs.Follows.{vote_here}
 use Rattle.fs_server.specs.Server.{Stepped, is_mine, moved, to_session}
 use Rattle.fs_server.specs.declared.state.Server.{Server}
 
@@ -73,29 +68,20 @@ pub record FreshGiven (dir : List ℕ) (items : List (Field × LeaseKind)) (a : 
 abbrev pub FreshComes : List ℕ → List (Field × LeaseKind) → Asking → Type 0
 FreshComes dir items a = FreshGiven dir items a ⊎ (a.end ≡ end.NoIds dir)
 
--- ## An operation that is led
+-- ## An operation that is led, and all parts are here
 
--- the leader of the operation, whose parts voted by the rows of this server
-abbrev pub leader_of : Session → Lead → Server → Leader
-leader_of by m s = record {
-  txn = txn_of s;
-  session = by;
-  n = m.n;
-  op = m.op;
-  file = m.file;
-  parts = parts_in m;
-  mode = Plain;
-  votes = map (λ (p : Part). Some (vote_on (rows_off_modes s.rows) (rows_on_modes s.rows) s.map s.me s.last by p None)) (parts_in m);
-}
+-- the server manages the file of each part
+abbrev pub has_all : Server → List Part → Bool
+has_all s parts = list_all (λ (p : Part). is_mine s p.file) parts
+
+-- the votes of this server on all parts
+abbrev pub votes_here : Session → Lead → Server → Votes
+votes_here by m s = map (λ (p : Part). Some (vote_here s by p)) (parts_in m)
 
 -- the effects of all parts, in their order
 abbrev pub all_effects : Decision → List Effect
 all_effects (Commit r effects) = flat_map (λ (es : List Effect). es) effects
 all_effects (Abort e) = []
-
-abbrev pub admitted_by : Decision → Session → Lead → List Item
-admitted_by (Commit r effects) by m = record { by = Client by; n = m.n; op = m.op; reply = r } ∷ []
-admitted_by (Abort e) by m = []
 
 -- the transaction ends as the leader decides, and all its parts are here
 abbrev pub concluded : Decision → Session → Lead → Server → Stepped
@@ -104,6 +90,6 @@ concluded d by m s = record {
   out = record {
     note = end_note (txn_of s) (end_of_decision d);
     send = to_session by (answer.Led (end_of_decision d)) ∷ [];
-    admitted = admitted_by d by m;
+    admitted = admitted_of d (leader_with (txn_of s) by m (votes_here by m s));
   };
 }

@@ -1,11 +1,10 @@
--- A delete or a rename that the server leads for a session, where it manages all files of the operation.
-use Rattle.std.specs.Prelude.{ℕ, ◌+◌, Bool, true, false, not, ◌&&◌, ◌||◌, List, [], ◌∷◌, Option, Some, None, is_some, if◌then◌else◌}
+-- A delete or a rename that the server leads for a session.
+use Rattle.std.specs.Prelude.{ℕ, Bool, true, false, not, ◌&&◌, List, [], ◌∷◌, Option, Some, None, is_some, if◌then◌else◌}
 use Rattle.std.specs.FinMap.{get}
-use Rattle.std.specs.List.{flat_map, list_all}
+use Rattle.std.specs.List.{flat_map}
 use Rattle.fs_ident.specs.Ident.{same}
 use Rattle.fs_ident.specs.declared.actor.Peer.TheVariants.{Client}
 use Rattle.fs_ident.specs.declared.actor.Session.{Session}
-use Rattle.fs_ident.specs.declared.actor.TxnNo.{TxnNo}
 use Rattle.fs_field.specs.declared.used.Part.{Part}
 use Rattle.fs_field.specs.declared.used.Use.{Use}
 use Rattle.fs_map.specs.Map.{longest}
@@ -18,15 +17,13 @@ use Rattle.fs_msg.specs.declared.answer.Answer.TheVariants as answer
 use Rattle.fs_msg.specs.declared.item.Item.{Item}
 use Rattle.fs_msg.specs.declared.lead.Lead.{Lead}
 use Rattle.fs_msg.specs.declared.server_note.ServerNote.TheVariants as note
-use Rattle.fs_record.specs.Applied.{records_after_all}
-use Rattle.fs_record.specs.LedEffects.{led_effects}
 use Rattle.fs_record.specs.declared.led_end.LedEnd.TheVariants as end
 use Rattle.fs_record.specs.declared.led_end.Why.{Why}
 use Rattle.fs_record.specs.declared.led_end.Why.TheVariants as why
 pub use Rattle.fs_txn.specs.Deciding.{reply_of}
 pub use Rattle.fs_server.specs.Begins.{parts_in, txn_of}
+use Rattle.fs_server.specs.Begins.{begins}
 use Rattle.fs_server.specs.Server.{Stepped, is_mine, strange, to_session}
-use Rattle.fs_server.specs.Ships.{first_gone}
 use Rattle.fs_server.specs.declared.state.Server.{Server}
 
 -- deletes and renames are led
@@ -40,10 +37,6 @@ is_led o = false
 -- the leases of the parts, in their order
 abbrev pub uses_of : List Part → List Use
 uses_of parts = flat_map (λ (p : Part). p.uses) parts
-
--- the server manages the file of each part
-abbrev pub has_all : Server → List Part → Bool
-has_all s parts = list_all (λ (p : Part). is_mine s p.file) parts
 
 -- ## Why it is not led now
 
@@ -63,11 +56,10 @@ abbrev pub is_over_paths : Server → Op → Kind → Bool
 is_over_paths s o File = false
 is_over_paths s o Dir = changes_paths s o
 
--- its home is with another server; or paths go over the file, or another server has a part, and no server leads such an operation yet
+-- its home is with another server; or paths go over the file, and no path is given out yet
 abbrev pub lead_refusal : Server → Lead → Option Why
 lead_refusal s m =
-    if is_mine s (home_of m.op) then
-    (if is_over_paths s m.op m.kind || not (has_all s (parts_in m)) then Some (why.Wanted (home_of m.op)) else None)
+    if is_mine s (home_of m.op) then (if is_over_paths s m.op m.kind then Some (why.Wanted (home_of m.op)) else None)
     else Some (moved_why (longest s.map (home_of m.op)))
 
 -- nothing is admitted and nothing changes
@@ -83,38 +75,12 @@ refuses by w s = record {
 
 -- ## What comes of it
 
--- the row of this lease is gone: the transaction is over, and nothing is admitted
-abbrev pub aborts : Session → Use → Server → Stepped
-aborts by u s = record {
-  server = record s { txns = s.txns + 1 };
-  out = record {
-    note = note.AbortsEnded (txn_of s) u.no u.until s.last;
-    send = to_session by (answer.Led (end.Ended u.no u.until s.last)) ∷ [];
-    admitted = [];
-  };
-}
-
+-- the operation as it is admitted
 abbrev pub led_item : Session → Lead → Item
 led_item by m = record { by = Client by; n = m.n; op = m.op; reply = reply_of m.op }
 
--- all rows stand: the operation is admitted, and its effects are applied
-abbrev pub commits : Session → Lead → Server → Stepped
-commits by m s = record {
-  server = record s { txns = s.txns + 1; records = records_after_all s.records (led_effects m.op m.file (reply_of m.op)) };
-  out = record {
-    note = note.Commits (txn_of s) (reply_of m.op);
-    send = to_session by (answer.Led (end.Done (reply_of m.op))) ∷ [];
-    admitted = led_item by m ∷ [];
-  };
-}
-
--- the first of its leases without a row decides
-abbrev pub decided_by : Option Use → Session → Lead → Server → Stepped
-decided_by None by m s = commits by m s
-decided_by (Some u) by m s = aborts by u s
-
 abbrev pub leads_unless : Option Why → Session → Lead → Server → Stepped
-leads_unless None by m s = decided_by (first_gone s.rows by (uses_of (parts_in m))) by m s
+leads_unless None by m s = begins by m s
 leads_unless (Some w) by m s = refuses by w s
 
 -- the session asks the server to lead an operation

@@ -19,6 +19,7 @@ use Rattle.fs_rows.specs.Granted.{with_rows}
 use Rattle.fs_rows.specs.Moving.{rows_left}
 use Rattle.fs_server.specs.declared.state.Server.{Server}
 use Rattle.fs_server.specs.Server.{Stepped, only_noted, strange}
+use Rattle.fs_server.specs.Counts.{done_step, vote_step}
 use Rattle.fs_server.specs.Follows.{decide_step, prepare_step}
 
 -- ## A move
@@ -80,10 +81,10 @@ abbrev pub parcel_at : Bool → Parcel → Server → Stepped
 parcel_at true p s = only_noted (note.Installs p.prefix) (installed p s)
 parcel_at false p s = strange s
 
--- what a message of another server comes to; none leads an operation with a part at another one yet, so no vote is awaited
+-- what a message of another server comes to
 abbrev pub peer_step : ℕ → PeerMsg → Server → Stepped
 peer_step from (peer.Parcel p) s = parcel_at (fits_here p s) p s
 peer_step from (peer.Prepare m) s = prepare_step from m s
-peer_step from (peer.Vote m) s = strange s
+peer_step from (peer.Vote m) s = vote_step m s
 peer_step from (peer.Decide m) s = decide_step from m s
-peer_step from (peer.Done m) s = strange s
+peer_step from (peer.Done m) s = done_step m s

@@ -15,7 +15,7 @@ use Rattle.fs_parcel.specs.Parcel.{fits}
 use Rattle.fs_record.specs.Moving.{AreNumbersLeft, records_given, records_left}
 use Rattle.fs_record.specs.Records.{RecordMap, next_of}
 use Rattle.fs_server.specs.declared.change.Change.{Change}
-use Rattle.fs_server.specs.declared.change.Change.TheVariants.{Nothing, Grant, Renew, Free, Admit, Reap, LeadAlone, Lead, Done, Prepare, Decide, Leave, Install}
+use Rattle.fs_server.specs.declared.change.Change.TheVariants.{Nothing, Grant, Renew, Free, Admit, Reap, Lead, Done, Prepare, Decide, Leave, Install}
 use Rattle.fs_server.specs.declared.change.Then.{Then}
 use Rattle.fs_server.specs.declared.change.Then.TheVariants.{Waits, Ends}
 use Rattle.fs_server.specs.declared.plan.Plan.{Plan}
@@ -61,7 +61,6 @@ changed (Renew until numbers) s = record s { rows = renewed_rows until numbers s
 changed (Free numbers) s = record s { rows = released_rows numbers s.rows }
 changed (Admit effects) s = record s { records = records_after_all s.records effects }
 changed (Reap count effects) s = record s { reaps = s.reaps + count; records = records_after_all s.records effects }
-changed (LeadAlone effects removals) s = record s { txns = s.txns + 1; records = records_after_all (records_after_all s.records effects) removals }
 changed (Lead begins txn uses rest) s =
     changed_then rest txn (record s { txns = if begins then s.txns + 1 else s.txns; rows = rows_locked txn uses s.rows })
 changed (Done txn number) s = done_change (ending_of txn s.ending) number s
@@ -113,7 +112,6 @@ abbrev pub CanChange : Change → Server → Type 0
 CanChange (Grant rows gift) s = IsNewGift gift s.records
 CanChange (Admit effects) s = list_all is_undoable effects ≡ true
 CanChange (Reap count effects) s = list_all is_undoable effects ≡ true
-CanChange (LeadAlone effects removals) s = (list_all is_undoable effects ≡ true) × (list_all takes_away removals ≡ true)
 CanChange (Lead begins txn uses rest) s = CanEnd rest
 CanChange (Decide txn number effects removals) s = (list_all is_undoable effects ≡ true) × (list_all takes_away removals ≡ true)
 CanChange (Leave to piece moved) s = IsPiece piece.prefix piece.given × (moved ≡ records_given piece.prefix piece.given s.records)

@@ -33,11 +33,6 @@ pub(crate) enum Change {
         count: u64,
         effects: List<Effect>,
     },
-    /// A transaction all of whose parts are here, and its effects: they are as those of `Decide`.
-    LeadAlone {
-        effects: List<Effect>,
-        removals: List<Effect>,
-    },
     /// A transaction of its own goes on; `begins`: it is a new one. It keeps the rows of these leases, those of parts that said Yes here just now.
     Lead {
         begins: bool,
@@ -111,10 +106,6 @@ impl Twin for Change {
                 count: *count,
                 effects: effects.copy(alloc)?,
             }),
-            Change::LeadAlone { effects, removals } => {
-                let (effects, removals) = copy_two(alloc, effects, removals)?;
-                Ok(Change::LeadAlone { effects, removals })
-            }
             Change::Lead {
                 begins,
                 txn,

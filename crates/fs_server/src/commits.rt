@@ -66,9 +66,6 @@ pub(crate) fn commit(
             server.rows.lapse(reading, server.skew);
             server.reaps += count;
         }
-        Change::LeadAlone { effects, removals } => {
-            lead_alone(alloc, server, reading, &effects, removals.as_slice())?;
-        }
         Change::Lead {
             begins,
             txn,
@@ -127,31 +124,6 @@ fn give_number(records: &mut Records, gift: Option<(FileId, u32)>)
     if let Some((dir, k)) = gift {
         records.gift(&dir, k);
     }
-}
-
-/// The effects of a transaction are applied: after those that can be taken back, those that want no memory.
-fn lead_alone(
-    alloc: Global,
-    server: &mut Server,
-    reading: u64,
-    effects: &List<Effect>,
-    removals: &[Effect],
-) -> Result<(), Memory>
-    requires effects { list_all is_undoable effects.now ≡ true }
-    requires removals { list_all takes_away removals.now ≡ true }
-    requires txns { server.old.txns + 1 < 2 ^ 64 }
-    ensures ok { OnOk result (server.new ≡ record server.old {
-      txns = server.old.txns + 1;
-      rows = filter (is_live reading server.old.skew) server.old.rows;
-      records = records_after_all (records_after_all server.old.records effects.now) removals.now;
-    }) }
-    ensures err { OnErr result (server.new ≡ server.old) }
-{
-    server.records.apply_all(alloc, effects)?;
-    take_all_away(&mut server.records, removals);
-    server.rows.lapse(reading, server.skew);
-    server.txns += 1;
-    Ok(())
 }
 
 /// A transaction goes on, and keeps the rows of these leases; where it begins, its number is used up.

@@ -14,6 +14,7 @@ ghost use Rattle.fs_server.specs.Step.{CanBeTold, counter_over, event_step, mess
 use crate::asks::ask;
 use crate::at_reading::AtReading;
 use crate::change::Change;
+use crate::counts::{done, vote};
 use crate::event::ServerEvent;
 use crate::follows::{applies, prepare};
 use crate::leads::lead;
@@ -56,8 +57,7 @@ pub(crate) fn decide(
     }
 }
 
-/// What a message of another server comes to. No server leads an operation with a part at another one yet, so no vote is
-/// awaited.
+/// What a message of another server comes to.
 fn from_peer(alloc: Global, at: &AtReading<'_>, from: u8, m: &PeerMsg) -> Result<Decided, Memory>
     requires ready { IsReady at.now }
     requires told { CanBeTold (FromPeer from m.now) }
@@ -67,9 +67,9 @@ fn from_peer(alloc: Global, at: &AtReading<'_>, from: u8, m: &PeerMsg) -> Result
     match m {
         PeerMsg::Parcel { parcel } => installs(alloc, at, parcel),
         PeerMsg::Prepare { prepare: m } => prepare(alloc, at, from, m),
-        PeerMsg::Vote { voted: _ } => Ok(strange(alloc)),
+        PeerMsg::Vote { voted: m } => vote(alloc, at, m),
         PeerMsg::Decide { decide: m } => applies(alloc, at, from, m),
-        PeerMsg::Done { done: _ } => Ok(strange(alloc)),
+        PeerMsg::Done { done: m } => done(alloc, at, m),
     }
 }
 

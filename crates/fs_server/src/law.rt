@@ -19,12 +19,16 @@ ghost use Rattle.fs_msg.specs.declared.msg.Msg.TheVariants as msg;
 ghost use Rattle.fs_msg.specs.declared.peer_msg.PeerMsg.TheVariants.{Parcel};
 ghost use Rattle.fs_msg.specs.declared.prepare.Prepare.{Prepare};
 ghost use Rattle.fs_msg.specs.declared.server_note.ServerNote.TheVariants as note;
+ghost use Rattle.fs_msg.specs.declared.voted.Voted.{Voted};
 ghost use Rattle.fs_parcel.specs.Parcel.{move_refusal, parcel_of};
 ghost use Rattle.fs_record.specs.Applied.{records_after_all};
 ghost use Rattle.fs_record.specs.Fresh.{is_directory};
 ghost use Rattle.fs_server.specs.Asks.{ask_from, asked_in};
+ghost use Rattle.fs_server.specs.Begins.{leader_with, parts_in, txn_of};
+ghost use Rattle.fs_server.specs.Counts.{vote_step};
 ghost use Rattle.fs_server.specs.Follows.{decide_step, prepare_step, vote_here};
-ghost use Rattle.fs_server.specs.Laws.{FreshComes, concluded, free_items, item_in, items_end, leader_of};
+ghost use Rattle.fs_server.specs.Laws.{FreshComes, concluded, free_items, has_all, item_in, items_end, votes_here};
+ghost use Rattle.fs_server.specs.LeadingLaws.{HasNextTxn};
 ghost use Rattle.fs_server.specs.Leads.{is_led, lead_refusal, lead_step, moved_why, refuses};
 ghost use Rattle.fs_server.specs.Rows.{rows_off_modes, rows_on_modes};
 ghost use Rattle.fs_server.specs.Server.{begun, is_mine, strange};
@@ -62,17 +66,21 @@ pub fn operations_are_led_at_home()
         lead_step by m s ≡ refuses by (moved_why (longest s.map (home_of m.op))) s }
 {}
 
-/// Where nothing is admitted no file changes: at most a number of a transaction is used up.
+/// Where nothing is admitted no file changes: not when a session asks the server to lead, and not when a vote comes.
 pub fn what_is_not_admitted_changes_no_file()
-    ensures { (by : Session) (m : Lead) (s : Server) → (lead_step by m s).out.admitted ≡ [] →
-        (lead_step by m s).server ≡ record s { txns = (lead_step by m s).server.txns } }
+    ensures leads { (by : Session) (m : Lead) (s : Server) → (lead_step by m s).out.admitted ≡ [] →
+        (lead_step by m s).server.records ≡ s.records }
+    ensures votes { (m : Voted) (s : Server) → (vote_step m s).out.admitted ≡ [] →
+        (vote_step m s).server.records ≡ s.records }
 {}
 
-/// Where all files of the operation are managed here, all its parts vote at once by the rows that stand, and the leader decides.
+/// Where all files of the operation are managed here, all its parts vote at once by the rows that stand, and the leader decides; but for
+/// its effects and the number of the transaction the server is as it was.
 pub fn parts_here_vote_at_once()
     ensures { (by : Session) (m : Lead) (s : Server) → is_led m.op ≡ true →
-        lead_refusal s m ≡ None →
-        lead_step by m s ≡ concluded (decision (leader_of by m s) None) by m s }
+        lead_refusal s m ≡ None → has_all s (parts_in m) ≡ true → HasNextTxn s →
+        lead_step by m s ≡
+        concluded (decision (leader_with (txn_of s) by m (votes_here by m s)) None) by m s }
 {}
 
 /// A move with none of the refusals is made in its own event: a parcel with all that is below the prefix goes out.

@@ -1,8 +1,7 @@
-//! What a leader does whose parts may be at other servers, as laws. No step of a server begins such a transaction yet.
+//! What a leader does whose parts may be at other servers, as laws.
 ghost use Rattle.std.specs.Prelude.{◌≡◌, ◌≤◌, ◌++◌, ℕ, true, false, List, [], ◌∷◌, length, map, None, Some, is_some, slice_get};
 ghost use Rattle.fs_ident.specs.In.{In};
 ghost use Rattle.fs_ident.specs.declared.actor.Peer.{Peer};
-ghost use Rattle.fs_ident.specs.declared.actor.Session.{Session};
 ghost use Rattle.fs_ident.specs.declared.actor.TxnNo.{TxnNo};
 ghost use Rattle.fs_field.specs.Table.{is_lock_of};
 ghost use Rattle.fs_field.specs.declared.effect.Effect.{Effect};
@@ -10,17 +9,14 @@ ghost use Rattle.fs_field.specs.declared.row.Row.{Row};
 ghost use Rattle.fs_model.specs.declared.reply.Reply.TheVariants.{Renamed};
 ghost use Rattle.fs_msg.specs.declared.answer.Answer.TheVariants as answer;
 ghost use Rattle.fs_msg.specs.declared.done.Done.{Done};
-ghost use Rattle.fs_msg.specs.declared.lead.Lead.{Lead};
 ghost use Rattle.fs_msg.specs.declared.msg.Msg.{Msg};
 ghost use Rattle.fs_msg.specs.declared.peer_msg.PeerMsg.TheVariants.{Decide};
 ghost use Rattle.fs_msg.specs.declared.voted.Voted.{Voted};
 ghost use Rattle.fs_record.specs.declared.led_end.LedEnd.{LedEnd};
-ghost use Rattle.fs_server.specs.Begins.{begins};
 ghost use Rattle.fs_server.specs.Concludes.{concludes, end_of_decision, tells};
 ghost use Rattle.fs_server.specs.Counts.{done_step, vote_step};
 ghost use Rattle.fs_server.specs.Follows.{to_server};
-ghost use Rattle.fs_server.specs.LeadingLaws.{CommitSplits, HasNextTxn, awaits_this, awaits_vote, of_number};
-ghost use Rattle.fs_server.specs.Leads.{is_led, lead_refusal, lead_step};
+ghost use Rattle.fs_server.specs.LeadingLaws.{CommitSplits, awaits_this, awaits_vote, of_number};
 ghost use Rattle.fs_server.specs.Server.{strange, to_session};
 ghost use Rattle.fs_server.specs.declared.state.Server.{Server};
 ghost use Rattle.fs_txn.specs.Deciding.{decision};
@@ -28,13 +24,6 @@ ghost use Rattle.fs_txn.specs.Leading.{awaits_done, elsewhere, ending_of, leadin
 ghost use Rattle.fs_txn.specs.declared.decision.Decision.TheVariants.{Commit, Abort};
 ghost use Rattle.fs_txn.specs.declared.leading.Ending.{Ending};
 ghost use Rattle.fs_txn.specs.declared.leading.Leading.{Leading};
-
-/// Where all files of the operation are managed here, and nothing is kept of the transaction that comes next, it is decided in the event
-/// in which it begins, as `step` does it.
-pub fn what_begins_here_ends_here()
-    ensures { (by : Session) (m : Lead) (s : Server) → is_led m.op ≡ true → lead_refusal s m ≡ None →
-        HasNextTxn s → begins by m s ≡ lead_step by m s }
-{}
 
 /// What a commit applies here, and what it tells other servers, are the effects of the operation: each at the server of its part, and in
 /// their order.

@@ -10,8 +10,12 @@
 //! - a fresh identifier scans the rows once, and then the numbers that they bear for each number that it tries;
 //! - a renewal and a release scan the rows for each pair, a log for each use up to the first whose row is gone;
 //! - an entry that is admitted finds its records (log f), and a create puts a name among those of its directory;
-//! - an operation that is led scans the rows for each use up to the first whose row is gone; a commit finds three records
-//!   (log f), and puts a name among those of its directory or takes one away;
+//! - an operation that is led scans the rows for each use of the parts that are here, up to the first of a part whose row is gone; any
+//!   other part is copied into a message. What is led so far is looked through for its number (`t` transactions). A commit finds three
+//!   records (log f) at most, and puts a name among those of its directory or takes one away; when it is carried out each row that it
+//!   locks is found (log r), and where it is decided the rows are scanned once to unlock them;
+//! - a vote copies the transaction (its parts and their uses) and looks for it among all that are led (t), and so does a part that is
+//!   done; with the last one the rows are scanned once;
 //! - a part that another server asks for scans the rows for each of its uses up to the first whose row is gone, and is copied twice;
 //!   when it is carried out each of its rows is found (log r);
 //! - a decision of such a part finds the records of its effects (log f); with the last part of a transaction it scans the rows once;
@@ -63,8 +67,7 @@ pub use law::{
 };
 pub use leading_law::{
     a_commit_splits_by_servers, a_rename_keeps_its_rows, a_session_is_told_when_all_is_done,
-    an_abort_does_nothing, each_part_is_told_once, what_begins_here_ends_here,
-    what_nobody_awaits_is_strange,
+    an_abort_does_nothing, each_part_is_told_once, what_nobody_awaits_is_strange,
 };
 pub use out::ServerOut;
 pub use plan::Plan;

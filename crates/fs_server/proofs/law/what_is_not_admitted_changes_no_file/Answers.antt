@@ -1,5 +1,8 @@
-use Rattle.fs_server.proofs.Leading.{no_file_changes}
+use Rattle.fs_server.proofs.LeaderLaws.{lead_unadmitted, vote_unadmitted}
 use Rattle.fs_server.proofs.law.what_is_not_admitted_changes_no_file.Goals as goal
 
-pub returns : goal.returns
-returns c = no_file_changes
+pub returns-clause-leads : goal.returns-clause-leads
+returns-clause-leads c = lead_unadmitted
+
+pub returns-clause-votes : goal.returns-clause-votes
+returns-clause-votes c = vote_unadmitted
