@@ -11,5 +11,4 @@ pub mod ShipLoop
 pub mod Admitted
 pub mod Refusing
 pub mod Ended
-pub mod Fair
 pub mod PendingRuns

@@ -23,3 +23,4 @@ pub mod RelockedWorld
 pub mod DecideSeen
 pub mod ConcludedTold
 pub mod CommitKeeps
+pub mod HeldSeen

@@ -9,6 +9,5 @@ pub mod Cycles
 pub mod Committing
 pub mod LedSteps
 pub mod LeadSame
-pub mod LeadEvents
+pub mod NoReplies
 pub mod HearsLed
-pub mod Unled

@@ -12,7 +12,7 @@ use Rattle.fs_msg.specs.declared.item.Item.{Item}
 use Rattle.fs_msg.specs.declared.msg.Msg.{Msg}
 use Rattle.fs_msg.specs.declared.msg.Msg.TheVariants as msg
 use Rattle.fs_msg.specs.declared.peer_msg.PeerMsg.{PeerMsg}
-use Rattle.fs_msg.specs.declared.peer_msg.PeerMsg.TheVariants.{Parcel as OfParcel}
+use Rattle.fs_msg.specs.declared.peer_msg.PeerMsg.TheVariants.{Parcel as OfParcel, Vote}
 use Rattle.fs_record.specs.declared.parcel.Parcel.{Parcel}
 use Rattle.fs_server.specs.declared.event.ServerEvent.{ServerEvent}
 use Rattle.fs_server.specs.declared.event.ServerEvent.TheVariants.{FromClient, FromPeer, Move}
@@ -123,9 +123,19 @@ abbrev pub without_arrived : ℕ → ServerEvent → List InFlight → List InFl
 without_arrived k (FromPeer from m) in_flight = without_first (is_between from k) in_flight
 without_arrived k e in_flight = in_flight
 
--- what is admitted where a session asked to lead it is its reply
+-- what a session led is its reply from then on
+abbrev pub with_item : Peer → Item → (Session → List Item) → Session → List Item
+with_item (OfSession by) i replied = with_replies by (replied by ++ i ∷ []) replied
+with_item (OfServer k) i replied = replied
+
+abbrev pub with_items : List Item → (Session → List Item) → Session → List Item
+with_items [] replied = replied
+with_items (i ∷ is) replied = with_items is (with_item i.by i replied)
+
+-- what is admitted where a session asked to lead it, or where the last vote came, is its session's reply
 abbrev pub replies_after : ServerEvent → List Item → (Session → List Item) → Session → List Item
-replies_after (FromClient by (Lead m)) items replied = with_replies by (replied by ++ items) replied
+replies_after (FromClient by (Lead m)) items replied = with_items items replied
+replies_after (FromPeer from (Vote m)) items replied = with_items items replied
 replies_after e items replied = replied
 
 abbrev pub after_step : ℕ → ServerEvent → Stepped → Cluster → Cluster

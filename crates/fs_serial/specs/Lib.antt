@@ -24,9 +24,7 @@ pub mod Places
 pub mod Words
 pub mod Leading
 pub mod Conclusions
-pub mod LaterSteps
 pub mod Owed
 pub mod Seen
-pub mod Meanwhile
 pub mod Runs
 pub mod Refusals

@@ -33,7 +33,11 @@ owed_at x s = map (λ (e : Ending). answer.Led e.end) (filter (λ (e : Ending). 
 abbrev pub owed_to : Session → List Server → List Answer
 owed_to x servers = flat_map (owed_at x) servers
 
--- the messages without their servers; what is owed stands in front of the answers on their way
+-- the messages without their servers
+abbrev pub ends_of : Lines → Ends
+ends_of l = record { client = l.client; up = map (λ (m : ℕ × ClientMsg). m.1) l.up; down = map (λ (m : ℕ × Answer). m.1) l.down }
+
+-- and what is taken and not decided; what is owed stands in front of the answers on their way
 abbrev pub ends_with : Session → List Server → Lines → Ends
 ends_with x servers l = record {
   client = l.client;

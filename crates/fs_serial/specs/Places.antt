@@ -17,7 +17,7 @@ use Rattle.fs_record.specs.Moving.{AreEachRecords}
 use Rattle.fs_record.specs.declared.parcel.Parcel.{Parcel}
 use Rattle.fs_server.specs.Server.{is_mine}
 use Rattle.fs_server.specs.declared.state.Server.{Server}
-use Rattle.fs_serial.specs.Cluster.{Cluster, InFlight, parcel_in, parcels_of}
+use Rattle.fs_serial.specs.Cluster.{Cluster, InFlight, parcels_of}
 use Rattle.fs_serial.specs.Fresh.{IsMade}
 use Rattle.fs_serial.specs.Joined.{rows_of_all}
 
@@ -69,10 +69,6 @@ pub record IsUnderway (servers : ℕ) (f : InFlight) : Type 0 where
   pub from : f.from < servers
   pub to : f.to < servers
   pub names : MessageNames servers f.message
-
--- all that is on its way between servers hands something over: what a server leads it has whole
-abbrev pub AreHandovers : List InFlight → Type 0
-AreHandovers in_flight = (f : InFlight) → In f in_flight → is_some (parcel_in f.message) ≡ true
 
 -- everything is at its place, each message goes to a server that there is, and no two rows have one number
 pub record PlacesHold (c : Cluster) : Type 0 where

@@ -5,8 +5,9 @@ use Rattle.fs_model.specs.Sound.{IsSound}
 use Rattle.fs_msg.specs.declared.item.Item.{Item}
 use Rattle.fs_record.specs.Records.{nodes_of, RecordMap}
 use Rattle.fs_server.specs.declared.event.ServerEvent.{ServerEvent}
+use Rattle.fs_txn.specs.Decided.{held_with}
 use Rattle.fs_serial.specs.Cluster.{CanCome, ClientEvent, Cluster, IsThere, after_client, after_server, parcels_of}
-use Rattle.fs_serial.specs.Joined.{records_of_all}
+use Rattle.fs_serial.specs.Joined.{effects_on_way, records_of_all}
 use Rattle.fs_serial.specs.Numbers.{AreNumbered, items_at, items_by}
 use Rattle.fs_serial.specs.Places.{PlacesHold}
 use Rattle.fs_serial.specs.Refusals.{rows_in}
@@ -49,9 +50,13 @@ pub record IsFrontOf (front all : List Item) : Type 0 where
   pub rest : List Item
   pub is : all ≡ front ++ rest
 
--- what the servers and the parcels between them hold together
+-- the records of the servers, and of the parcels between them
+abbrev pub records_in : Cluster → RecordMap
+records_in c = records_of_all c.servers (parcels_of c.in_flight)
+
+-- what they hold together, with what is decided and not applied yet
 abbrev pub held_by : Cluster → RecordMap
-held_by c = records_of_all c.servers (parcels_of c.in_flight)
+held_by c = held_with (effects_on_way c.in_flight) (records_in c)
 
 -- the journal is one serial run of the namespace, in each session's order, to the space that the servers hold together, which
 -- is sound; and what each session was told is what the journal has

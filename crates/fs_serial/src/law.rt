@@ -51,7 +51,8 @@ ghost use Rattle.fs_serial.specs.Parts.{AllHold, ServersFit, ServersHold, Sessio
 ghost use Rattle.fs_serial.specs.Settled.{HasLeaseAs, Settled, acknowledged, settled, settled_now};
 ghost use Rattle.fs_serial.specs.Places.{PlacesHold};
 ghost use Rattle.fs_serial.specs.Runs.{CanRun, Dated, IsOneSerialRun, IsOrderly, IsRun, greatest_in, held_by, run};
-ghost use Rattle.fs_serial.specs.Seen.{ClusterHolds, ends_of, with_all};
+ghost use Rattle.fs_serial.specs.Owed.{ends_in};
+ghost use Rattle.fs_serial.specs.Seen.{ClusterHolds, with_all};
 ghost use Rattle.fs_serial.specs.Sight.{Counts, Sight, sight_of};
 ghost use Rattle.fs_serial.specs.Refusals.{IsFairStep, rows_in};
 ghost use Rattle.fs_serial.specs.Steps.{AllStand, AreRepliesFrom, HadEnded, IsAdmitted, IsReplied};
@@ -254,8 +255,8 @@ pub fn pending_replies_are_the_namespaces()
         AllStand s.rows by front → AreRepliesFrom (nodes_of s.records) by front }
     ensures together { (skew greatest : ℕ) (c : Cluster) (by : Session) (front rest : List Entry)
         (s : Server) → ClusterHolds skew greatest c → In s c.servers →
-        (settled_at by (ends_of (c.lines by))).log ≡ front ++ rest →
-        (settled_at by (ends_of (c.lines by))).over ≡ None →
+        (settled_at by (ends_in c by)).log ≡ front ++ rest →
+        (settled_at by (ends_in c by)).over ≡ None →
         AllStand (rows_in c) by front → AreRepliesFrom (nodes_of (held_by c)) by front }
 {}
 

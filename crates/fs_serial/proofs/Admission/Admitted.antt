@@ -1,13 +1,11 @@
 -- An entry whose rows stand, behind such entries, is admitted when it comes.
 use Rattle.std.proofs.Common.{◌≡◌, true, List, [], ◌∷◌, ◌++◌, refl, inl, sym, subst}
-use Rattle.std.specs.Prelude.{ℕ, Some, slice_get}
+use Rattle.std.specs.Prelude.{ℕ}
 use Rattle.std.specs.List.{list_all}
 use Rattle.fs_ident.specs.In.{In}
 use Rattle.fs_ident.specs.declared.actor.Session.{Session}
 use Rattle.fs_ident.proofs.Booleans.{both}
-use Rattle.fs_ident.proofs.Passing.{found}
-use Rattle.fs_ident.proofs.Standing.{In-behind, In-front, In-got, In-mapped}
-use Rattle.fs_msg.specs.declared.client_msg.ClientMsg.{ClientMsg}
+use Rattle.fs_ident.proofs.Standing.{In-behind, In-front}
 use Rattle.fs_msg.specs.declared.client_msg.ClientMsg.TheVariants.{Ship}
 use Rattle.fs_msg.specs.declared.entry.Entry.{Entry}
 use Rattle.fs_model.specs.Asking.{home_of}
@@ -19,10 +17,7 @@ use Rattle.fs_server.specs.Step.{step}
 use Rattle.fs_server.specs.declared.event.ServerEvent.TheVariants.{FromClient}
 use Rattle.fs_server.specs.declared.state.Server.{Server}
 use Rattle.fs_server.proofs.OneByOne.{each_entry, entry_taken}
-use Rattle.fs_serial.specs.Cluster.{Cluster, IsThere, is_with}
-use Rattle.fs_serial.specs.Seen.{ClusterHolds, world_of}
 use Rattle.fs_serial.specs.Steps.{AllStand}
-use Rattle.fs_serial.proofs.OneServer.ServerEvents.{all_plain}
 
 -- what was admitted stays so
 still_admitted : (by : Session) (es : List Entry) (s : Server) (admitted : List Item) (i : Item) → In i admitted → In i (ship_from by es s admitted).admitted
@@ -43,11 +38,3 @@ in_its_turn by (f ∷ fs) e rest s admitted mine h =
 pub admitted_at_once : (s : Server) (now : ℕ) (by : Session) (front rest : List Entry) (e : Entry) → list_all (λ (x : Entry). tells_its_effects x.op) (front ++ e ∷ rest) ≡ true → AreMine s (front ++ e ∷ []) → AllStand (begun now s).rows by (front ++ e ∷ [])
     → In (item_of by e) (step s now (FromClient by (Ship (front ++ e ∷ rest)))).out.admitted
 admitted_at_once s now by front rest e tell mine h = rw (tell, In) (in_its_turn by front e rest (begun now s) [] mine h)
-
--- all entries that come are plain
-pub admitted_always : (skew greatest now k : ℕ) (s : Server) (c : Cluster) (by : Session) (front rest : List Entry) (e : Entry) → slice_get c.servers k ≡ Some s → IsThere k (FromClient by (Ship (front ++ e ∷ rest))) c → ClusterHolds skew greatest c → AreMine s (front ++ e ∷ []) → AllStand (begun now s).rows by (front ++ e ∷ [])
-    → In (item_of by e) (step s now (FromClient by (Ship (front ++ e ∷ rest)))).out.admitted
-admitted_always skew greatest now k s c by front rest e at there h mine stand =
-    let entries = front ++ e ∷ rest in
-    let coming = In-mapped (λ (n : ℕ × ClientMsg). n.1) (k, Ship entries) (c.lines by).up (found (is_with k) (c.lines by).up (k, Ship entries) there).0 in
-    admitted_at_once s now by front rest e (all_plain greatest (world_of s c) by entries coming (h.parts s (In-got c.servers k s at))) mine stand

@@ -10,16 +10,11 @@ use Rattle.fs_record.specs.Records.{nodes_of}
 use Rattle.fs_record.specs.ValueOf.{value_of}
 use Rattle.fs_server.specs.Ships.{item_of, with_entry}
 use Rattle.fs_server.specs.declared.state.Server.{Server}
-use Rattle.fs_serial.specs.Cluster.{Cluster}
 use Rattle.fs_serial.specs.Parts.{AllHold, with_client}
 use Rattle.fs_serial.specs.Pending.{IsAnswer, IsEntry, PendingStand}
-use Rattle.fs_serial.specs.Refusals.{rows_in}
-use Rattle.fs_serial.specs.Runs.{held_by}
-use Rattle.fs_serial.specs.Seen.{ClusterHolds, counts_of, ends_of, with_all}
 use Rattle.fs_serial.specs.Settled.{Settled, acknowledged}
 use Rattle.fs_serial.specs.Sight.{Counts, sight_of}
 use Rattle.fs_serial.specs.Steps.{AllStand, AreRepliesFrom}
-use Rattle.fs_serial.specs.World.{settled_at}
 use Rattle.fs_serial.proofs.Admission.AdmitAll.{admit_kept}
 use Rattle.fs_serial.proofs.Admission.Answered.{answered, leads_there, no_reap}
 use Rattle.fs_serial.proofs.Admission.Rowed.{all_found}
@@ -41,9 +36,3 @@ pending_from o skew greatest replied by rest (e ∷ es) s journal clients h log 
     let more = pending_from o skew greatest replied by rest es (with_entry by e s) (journal ++ item_of by e ∷ []) (with_client by (acknowledged by d.log d) clients) then
     (ap (λ (c : Settled). c.log) is ∙ ap (λ l. (acknowledged by l d).log) log) (ap (λ (c : Settled). c.over) is ∙ (over_then by d.log d ∙ over)) stand.1 in
     (more.0, (no_reap e.op plain.plain, answered s.records by e plain right, subst (λ m. IsSerialRun m (map (item_of by) es) more.0) (leads_there s.records by e plain right) more.1))
-
--- the same of what all servers hold together
-pub pending_together : (skew greatest : ℕ) (c : Cluster) (by : Session) (front rest : List Entry) (s : Server) → ClusterHolds skew greatest c → In s c.servers
-    → (settled_at by (ends_of (c.lines by))).log ≡ front ++ rest → (settled_at by (ends_of (c.lines by))).over ≡ None → AllStand (rows_in c) by front → AreRepliesFrom (nodes_of (held_by c)) by front
-pending_together skew greatest c by front rest s h there log over stand =
-    pending_from (counts_of c.servers) s.skew greatest c.replied by rest front (with_all s c) c.journal (λ x. settled_at x (ends_of (c.lines x))) (h.parts s there).all log over stand

@@ -6,7 +6,6 @@ use Rattle.fs_ident.specs.In.{In}
 use Rattle.fs_ident.specs.declared.actor.Peer.{Peer}
 use Rattle.fs_ident.specs.declared.actor.Peer.TheVariants.{Client as OfSession, Server as OfServer}
 use Rattle.fs_ident.specs.declared.actor.Session.{Session}
-use Rattle.fs_field.specs.declared.used.Use.{Use}
 use Rattle.fs_field.specs.declared.vote.Vote.{Vote}
 use Rattle.fs_msg.specs.declared.answer.Answer.{Answer}
 use Rattle.fs_msg.specs.declared.answer.Answer.TheVariants.{Granted, Shipped}
@@ -14,27 +13,23 @@ use Rattle.fs_msg.specs.declared.client_msg.ClientMsg.{ClientMsg}
 use Rattle.fs_msg.specs.declared.client_msg.ClientMsg.TheVariants.{Ask, Renew, Release, Ship, Lead}
 use Rattle.fs_msg.specs.declared.entry.Entry.{Entry}
 use Rattle.fs_msg.specs.declared.msg.Msg.{Msg}
-use Rattle.fs_msg.specs.declared.lead.Lead.{Lead as ToLead}
 use Rattle.fs_msg.specs.declared.peer_msg.PeerMsg.{PeerMsg}
 use Rattle.fs_msg.specs.declared.peer_msg.PeerMsg.TheVariants as peer
-use Rattle.fs_msg.specs.declared.decide.Decide.{Decide as ToDecide}
-use Rattle.fs_msg.specs.declared.prepare.Prepare.{Prepare as ToPrepare}
 use Rattle.fs_parcel.specs.Parcel.{move_refusal, parcel_of}
 use Rattle.fs_parcel.specs.declared.error.MoveError.{MoveError}
 use Rattle.fs_record.specs.Effects.{tells_its_effects}
-use Rattle.fs_record.specs.declared.led_end.Why.{Why}
 use Rattle.fs_record.specs.declared.parcel.Parcel.{Parcel}
 use Rattle.fs_server.specs.Asks.{asked_in, recalls_at}
-use Rattle.fs_server.specs.Follows.{applies, is_prepared, to_server, vote_here, votes}
-use Rattle.fs_server.specs.Leads.{decided_by, is_led, lead_refusal, leads_unless, parts_in, uses_of}
+use Rattle.fs_server.specs.Follows.{to_server}
 use Rattle.fs_server.specs.Moves.{fits_here, move_at, parcel_at, peer_step}
 use Rattle.fs_server.specs.Reaps.{lapsed_in, reap_from, recalls_for, turn_over}
 use Rattle.fs_server.specs.Server.{strange, to_session}
-use Rattle.fs_server.specs.Ships.{first_gone, ship_from, shipped}
+use Rattle.fs_server.specs.Ships.{ship_from, shipped}
 use Rattle.fs_server.specs.Step.{event_step, recalled_on, recalls_of}
 use Rattle.fs_server.specs.declared.event.ServerEvent.{ServerEvent}
 use Rattle.fs_server.specs.declared.event.ServerEvent.TheVariants as event
 use Rattle.fs_server.specs.declared.state.Server.{Server}
+use Rattle.fs_serial.specs.Words.{IsNoneOfLed}
 use Rattle.fs_serial.proofs.WholeRuns.Addressing.{AreDue, recalls_due}
 use Rattle.fs_serial.proofs.ClientMessages.Sending.{IsRecallTo, recall_all, recall_each, recall_with}
 
@@ -56,24 +51,12 @@ module _ (k : ℕ) (asked : Session → Option ℕ) where
   ship_due by entries s true due = let x = ship_from by entries s [] in one_due by (Shipped (length x.admitted) x.end) [] due (λ m i. absurd i)
   ship_due by entries s false due = none_due
 
-  decided_due : (by : Session) (m : ToLead) (s : Server) (o : Option Use) → asked by ≡ Some k → AreDue k (decided_by o by m s).out.send asked
-  decided_due by m s None due = λ to b i d. one_due by _ [] due (λ m j. absurd j) to b i d
-  decided_due by m s (Some u) due = λ to b i d. one_due by _ [] due (λ m j. absurd j) to b i d
-
-  leads_due : (by : Session) (m : ToLead) (s : Server) (o : Option Why) → asked by ≡ Some k → AreDue k (leads_unless o by m s).out.send asked
-  leads_due by m s None due = decided_due by m s (first_gone s.rows by (uses_of (parts_in m))) due
-  leads_due by m s (Some w) due = λ to b i d. one_due by _ [] due (λ m j. absurd j) to b i d
-
-  lead_due : (by : Session) (m : ToLead) (s : Server) (b : Bool) → asked by ≡ Some k → AreDue k (cond b (leads_unless (lead_refusal s m) by m s) (strange s)).out.send asked
-  lead_due by m s true due = leads_due by m s (lead_refusal s m) due
-  lead_due by m s false due = none_due
-
-  message_due : (by : Session) (m : ClientMsg) (s : Server) → asked by ≡ Some k → AreDue k (event_step (event.FromClient by m) s).out.send asked
-  message_due by (Ask items dir) s due = let a = asked_in by items dir s in one_due by (Granted a.grants a.fresh a.end) (recalls_at a.end a.server.rows) due (recall_with a.end a.server.rows)
-  message_due by (Renew pairs) s due = λ to b i d. one_due by _ [] due (λ m j. absurd j) to b i d
-  message_due by (Release pairs) s due = λ to b i d. one_due by _ [] due (λ m j. absurd j) to b i d
-  message_due by (Ship entries) s due = ship_due by entries s (list_all (λ (e : Entry). tells_its_effects e.op) entries) due
-  message_due by (Lead m) s due = lead_due by m s (is_led m.op) due
+  message_due : (by : Session) (m : ClientMsg) (s : Server) → IsNoneOfLed (event.FromClient by m) → asked by ≡ Some k → AreDue k (event_step (event.FromClient by m) s).out.send asked
+  message_due by (Ask items dir) s none due = let a = asked_in by items dir s in one_due by (Granted a.grants a.fresh a.end) (recalls_at a.end a.server.rows) due (recall_with a.end a.server.rows)
+  message_due by (Renew pairs) s none due = λ to b i d. one_due by _ [] due (λ m j. absurd j) to b i d
+  message_due by (Release pairs) s none due = λ to b i d. one_due by _ [] due (λ m j. absurd j) to b i d
+  message_due by (Ship entries) s none due = ship_due by entries s (list_all (λ (e : Entry). tells_its_effects e.op) entries) due
+  message_due by (Lead m) s none due = absurd none
 
   turn_due : (xs : List (List ℕ × Session)) (s : Server) → AreDue k (turn_over xs s).out.send asked
   turn_due [] s = none_due
@@ -90,20 +73,12 @@ module _ (k : ℕ) (asked : Session → Option ℕ) where
     | inr z ↦ absurd z
   ]
 
-  prepare_due : (b : Bool) (v : Vote) (from : ℕ) (m : ToPrepare) (s : Server) → AreDue k (cond b (strange s) (votes v from m s)).out.send asked
-  prepare_due true v from m s = none_due
-  prepare_due false v from m s = server_due from (peer.Vote (record { txn = m.txn; number = m.number; vote = v }))
-
-  decide_due : (b : Bool) (from : ℕ) (m : ToDecide) (s : Server) → AreDue k (cond b (applies from m s) (strange s)).out.send asked
-  decide_due true from m s = server_due from (peer.Done (record { txn = m.txn; number = m.number }))
-  decide_due false from m s = none_due
-
-  peer_due : (from : ℕ) (m : PeerMsg) (s : Server) → AreDue k (peer_step from m s).out.send asked
-  peer_due from (peer.Parcel p) s = parcel_due (fits_here p s) p s
-  peer_due from (peer.Prepare m) s = prepare_due (is_prepared m.txn m.number s.prepared) (vote_here s m.session m.part) from m s
-  peer_due from (peer.Vote m) s = none_due
-  peer_due from (peer.Decide m) s = decide_due (is_prepared m.txn m.number s.prepared) from m s
-  peer_due from (peer.Done m) s = none_due
+  peer_due : (from : ℕ) (m : PeerMsg) (s : Server) → IsNoneOfLed (event.FromPeer from m) → AreDue k (peer_step from m s).out.send asked
+  peer_due from (peer.Parcel p) s none = parcel_due (fits_here p s) p s
+  peer_due from (peer.Prepare m) s none = absurd (cc none)
+  peer_due from (peer.Vote m) s none = absurd (cc none)
+  peer_due from (peer.Decide m) s none = absurd (cc none)
+  peer_due from (peer.Done m) s none = absurd (cc none)
 
   move_due : (o : Option MoveError) (prefix : List ℕ) (to : ℕ) (s : Server) → AreDue k (move_at o prefix to s).out.send asked
   move_due None prefix to s = server_due to (peer.Parcel (parcel_of s.records s.rows s.map s.me prefix))
@@ -114,9 +89,9 @@ module _ (k : ℕ) (asked : Session → Option ℕ) where
   HasAsked (event.FromClient by m) = asked by ≡ Some k
   HasAsked e = Unit {0}
 
-  pub event_due : (e : ServerEvent) (s : Server) → HasAsked e → AreDue k (event_step e s).out.send asked
-  event_due (event.FromClient by m) s due = message_due by m s due
-  event_due (event.FromPeer from m) s due = peer_due from m s
-  event_due event.Turn s due = turn_due (lapsed_in s) s
-  event_due (event.Recall field) s due = recalls_due k (recalls_of (recalled_on field s)) asked (recall_all (recalled_on field s))
-  event_due (event.Move prefix to) s due = move_due (move_refusal s.records s.rows s.map s.me prefix to None) prefix to s
+  pub event_due : (e : ServerEvent) (s : Server) → IsNoneOfLed e → HasAsked e → AreDue k (event_step e s).out.send asked
+  event_due (event.FromClient by m) s none due = message_due by m s none due
+  event_due (event.FromPeer from m) s none due = peer_due from m s none
+  event_due event.Turn s none due = turn_due (lapsed_in s) s
+  event_due (event.Recall field) s none due = recalls_due k (recalls_of (recalled_on field s)) asked (recall_all (recalled_on field s))
+  event_due (event.Move prefix to) s none due = move_due (move_refusal s.records s.rows s.map s.me prefix to None) prefix to s

@@ -46,14 +46,15 @@ use Rattle.fs_serial.specs.Conclusions.{after_concluded}
 use Rattle.fs_serial.specs.Decided.{WorldStands}
 use Rattle.fs_serial.specs.Leading.{IsLeading, IsLedBy, LedHolds, StaysIn}
 use Rattle.fs_serial.specs.Led.{IsLeadAnswer, LedStands}
-use Rattle.fs_serial.specs.Meanwhile.{ClusterStands, held_meanwhile, world_meanwhile}
 use Rattle.fs_serial.specs.Owed.{ends_in}
 use Rattle.fs_serial.specs.Pending.{HasUse, IsCovered}
 use Rattle.fs_serial.specs.Words.{key_of, said_at}
 use Rattle.fs_serial.specs.World.{World, settled_at, sight_in}
+use Rattle.fs_serial.specs.Seen.{ClusterHolds, world_of}
 use Rattle.fs_serial.proofs.DecidedEffects.CommitSeen.{decision_is, own_on}
 use Rattle.fs_serial.proofs.DecidedEffects.CommitStands.{IsOfFiles, commit_stands}
 use Rattle.fs_serial.proofs.DecidedEffects.FileApart.{IsFileApart, file_apart}
+use Rattle.fs_serial.proofs.DecidedEffects.HeldSeen.{held_seen}
 use Rattle.fs_serial.proofs.LedOperations.MovedItems.{HasMoved, HasPlace, moved_items, moved_parts, placed_items}
 use Rattle.fs_serial.proofs.Places.PutRecords.{AreOn}
 use Rattle.fs_serial.proofs.Transactions.FullCommits.{all_stand, full_commits, is_plain}
@@ -141,7 +142,7 @@ files_only (op.Delete dir name) kind (inl e) = e
 files_only (op.Delete dir name) kind (inr t) = absurd t
 files_only o kind q = tt
 
-module _ (k skew greatest : ℕ) (c : Cluster) (s : Server) (at : slice_get c.servers k ≡ Some s) (h : ClusterStands skew greatest c)
+module _ (k skew greatest : ℕ) (c : Cluster) (s : Server) (at : slice_get c.servers k ≡ Some s) (h : ClusterHolds skew greatest c)
     (l : Leading) (there : In l s.leading) (yes : first_end l.leader.votes ≡ None) where
   here : In s c.servers
   here = In-got c.servers k s at
@@ -156,7 +157,7 @@ module _ (k skew greatest : ℕ) (c : Cluster) (s : Server) (at : slice_get c.se
   by = l.leader.session
 
   abbrev pub w : World
-  w = world_meanwhile s c
+  w = world_of s c
 
   client : IsLedBy c.lines by k d
   client = subst (λ n. IsLedBy c.lines by n d) (h.places.numbered k s at) leads.client
@@ -171,7 +172,7 @@ module _ (k skew greatest : ℕ) (c : Cluster) (s : Server) (at : slice_get c.se
   answer = standing.right (all_stand k skew greatest c s at h l there yes)
 
   pub apart : IsFileApart d.entry.op d.file
-  apart = file_apart (held_meanwhile c) by d.entry.op d.file d.entry.reply (record {
+  apart = file_apart (held_seen c) by d.entry.op d.file d.entry.reply (record {
     records = (h.parts s here).0.all.kept.sound.records;
     space = (h.parts s here).0.all.kept.sound.space;
     moves = committed.moves;
@@ -207,6 +208,6 @@ module _ (k skew greatest : ℕ) (c : Cluster) (s : Server) (at : slice_get c.se
         parted = ap₂ (λ o f. same f (source_of o)) leads.leader.op leads.leader.file ∙ apart.1
 
     pub commit_keeps : LedHolds (after_concluded k l s c) → WorldStands greatest
-        (world_meanwhile (concludes l [] s).server (after_concluded k l s c))
+        (world_of (concludes l [] s).server (after_concluded k l s c))
     commit_keeps led = commit_stands k skew greatest c s at h l there yes
         (up_led skew greatest c s here h by s here l there refl d leads.client.led) committed files_are apart own splits led

@@ -37,10 +37,11 @@ use Rattle.fs_serial.specs.Decided.{decided_for}
 use Rattle.fs_serial.specs.Joined.{records_of_all}
 use Rattle.fs_serial.specs.Leading.{IsLeading}
 use Rattle.fs_serial.specs.Locks.{IsRelock, at_home}
-use Rattle.fs_serial.specs.Meanwhile.{ClusterStands, held_meanwhile}
 use Rattle.fs_serial.specs.Refusals.{rows_in}
 use Rattle.fs_serial.specs.Words.{decided_in}
+use Rattle.fs_serial.specs.Seen.{ClusterHolds}
 use Rattle.fs_serial.proofs.DecidedEffects.DecisionSeen as decides
+use Rattle.fs_serial.proofs.DecidedEffects.HeldSeen.{held_seen}
 use Rattle.fs_serial.proofs.Places.AppliedRecords.{records_applied}
 use Rattle.fs_serial.proofs.Places.PutRecords.{AreOn}
 use Rattle.fs_serial.proofs.Transactions.Tables.{In_some}
@@ -63,7 +64,7 @@ goes_same me l d e h =
     each None = refl
     each (Some p) = ap (λ f. same f p.file) h
 
-module _ (k skew greatest : ℕ) (c : Cluster) (s : Server) (at : slice_get c.servers k ≡ Some s) (h : ClusterStands skew greatest c)
+module _ (k skew greatest : ℕ) (c : Cluster) (s : Server) (at : slice_get c.servers k ≡ Some s) (h : ClusterHolds skew greatest c)
     (l : Leading) (there : In l s.leading) (yes : first_end l.leader.votes ≡ None) where
   abbrev t : TxnNo
   t = l.leader.txn
@@ -158,7 +159,7 @@ module _ (k skew greatest : ℕ) (c : Cluster) (s : Server) (at : slice_get c.se
           (ap (λ (e : Decision). records_after_all s.records (own_effects s.me l e)) decision_is)
           ∙ split.0 all_records
 
-      pub held_is : held_meanwhile after
+      pub held_is : held_seen after
           ≡ held_with (effects_in (decided_in c ++ decided_for l.leader.session (going goes all_effects)))
           (records_after_all all_records (staying goes all_effects))
       held_is = ap₂ (λ ds m. held_with (effects_in ds) m) decided_is records_are

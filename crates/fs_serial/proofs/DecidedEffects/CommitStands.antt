@@ -46,18 +46,17 @@ use Rattle.fs_txn.specs.Leading.{own_parts}
 use Rattle.fs_txn.specs.Parts.{source_of}
 use Rattle.fs_txn.specs.declared.leading.Leading.{Leading}
 use Rattle.fs_view.specs.LedLaws.{IsLed}
-use Rattle.fs_serial.specs.Cluster.{Cluster, parcels_of}
+use Rattle.fs_serial.specs.Cluster.{Cluster, parcels_of, with_items}
 use Rattle.fs_serial.specs.Commits.{IsCommitted}
-use Rattle.fs_serial.specs.Conclusions.{after_concluded, with_items}
+use Rattle.fs_serial.specs.Conclusions.{after_concluded}
 use Rattle.fs_serial.specs.Decided.{DecidedFits, IsOfFile, IsSplit, WorldStands, after_commit, decided_for}
 use Rattle.fs_serial.specs.Joined.{records_of_all}
 use Rattle.fs_serial.specs.Leading.{IsLeading, LedHolds}
 use Rattle.fs_serial.specs.Led.{LedStands}
 use Rattle.fs_serial.specs.Locks.{at_home}
-use Rattle.fs_serial.specs.Meanwhile.{ClusterStands, held_meanwhile, world_meanwhile}
 use Rattle.fs_serial.specs.Owed.{ends_in}
 use Rattle.fs_serial.specs.Refusals.{rows_in}
-use Rattle.fs_serial.specs.Seen.{given_at, reaps_at}
+use Rattle.fs_serial.specs.Seen.{ClusterHolds, given_at, reaps_at, world_of}
 use Rattle.fs_serial.specs.Settled.{Settled}
 use Rattle.fs_serial.specs.Sight.{Sight}
 use Rattle.fs_serial.specs.Words.{decided_in}
@@ -68,6 +67,7 @@ use Rattle.fs_serial.proofs.DecidedEffects.DecideSeen.{StaysDecided, fits_again}
 use Rattle.fs_serial.proofs.DecidedEffects.DecidedOwed.{decided_owed}
 use Rattle.fs_serial.proofs.DecidedEffects.FileApart.{IsFileApart}
 use Rattle.fs_serial.proofs.DecidedEffects.GuardsAgain.{IsPut, all_put, decided_again}
+use Rattle.fs_serial.proofs.DecidedEffects.HeldSeen.{held_seen}
 use Rattle.fs_serial.proofs.DecidedEffects.LedPuts.{AreBare, ArePut, beside, each_fits, put_past}
 use Rattle.fs_serial.proofs.DecidedEffects.RelockedWorld.{relocked_holds, with_locks}
 use Rattle.fs_serial.proofs.DecidedEffects.StandPast.{AllApart}
@@ -100,7 +100,7 @@ goes_file (op.Rename sdir sname ddir dname) file f kind q (inr (inr (inl e))) =
 goes_file (op.Rename sdir sname ddir dname) file f kind q (inr (inr (inr z))) = absurd z
 goes_file o file f kind q i = absurd i
 
-module _ (k skew greatest : ℕ) (c : Cluster) (s : Server) (at : slice_get c.servers k ≡ Some s) (h : ClusterStands skew greatest c)
+module _ (k skew greatest : ℕ) (c : Cluster) (s : Server) (at : slice_get c.servers k ≡ Some s) (h : ClusterHolds skew greatest c)
     (l : Leading) (there : In l s.leading) (yes : first_end l.leader.votes ≡ None) where
   here : In s c.servers
   here = In-got c.servers k s at
@@ -118,7 +118,7 @@ module _ (k skew greatest : ℕ) (c : Cluster) (s : Server) (at : slice_get c.se
   by = l.leader.session
 
   abbrev pub w : World
-  w = world_meanwhile s c
+  w = world_of s c
 
   abbrev pub t : Server
   t = (concludes l [] s).server
@@ -139,7 +139,7 @@ module _ (k skew greatest : ℕ) (c : Cluster) (s : Server) (at : slice_get c.se
   records = records_of_all c.servers (parcels_of c.in_flight)
 
   abbrev held : RecordMap
-  held = held_meanwhile c
+  held = held_seen c
 
   view : WorldStands greatest w
   view = h.parts s here
@@ -176,7 +176,7 @@ module _ (k skew greatest : ℕ) (c : Cluster) (s : Server) (at : slice_get c.se
     records_then : records_of_all then.servers (parcels_of then.in_flight) ≡ records_after_all records (staying sends es)
     records_then = records_are k skew greatest c s at h l there yes splits away parted own
 
-    held_then : held_meanwhile then ≡ held_with (effects_in (decided_in c ++ decided_for by (going sends es)))
+    held_then : held_seen then ≡ held_with (effects_in (decided_in c ++ decided_for by (going sends es)))
         (records_after_all records (staying sends es))
     held_then = held_is k skew greatest c s at h l there yes splits away parted own
 
@@ -213,9 +213,9 @@ module _ (k skew greatest : ℕ) (c : Cluster) (s : Server) (at : slice_get c.se
     told_same : (y : Session) → second.ends y ≡ told k skew greatest c s at h l there (decision l.leader None) y
     told_same y = ap (λ e. with_answer by (answer.Led e) (without_question by (ends_in c)) y) end_is
 
-    pub commit_holds : WorldHolds greatest (world_meanwhile t then)
+    pub commit_holds : WorldHolds greatest (world_of t then)
     commit_holds =
-        alike_holds greatest (record second { ends = ends_in then }) (world_meanwhile t then) (record {
+        alike_holds greatest (record second { ends = ends_in then }) (world_of t then) (record {
           rows = rows_are k skew greatest c s at h l there yes;
           records = held_then
               ∙ ap (λ es. held_with (effects_in (decided_in c ++ decided_for by (going sends es)))
@@ -256,7 +256,7 @@ module _ (k skew greatest : ℕ) (c : Cluster) (s : Server) (at : slice_get c.se
     go_past = subst GoPast (sym effects_are) (subst (λ (x : TheLed). IsCommitted now by its x.entry x.file → GoPast (effects_by x)) same_led
         (λ q. (effects_past greatest w by m up view.0 view.1 q, one_step greatest w by m up view.0 view.1 q)) committed)
 
-    held_so : held_meanwhile then ≡ records_after_all held es
+    held_so : held_seen then ≡ records_after_all held es
     held_so = held_then ∙ go_past.1 sends split
 
     led_so : IsLed held by d.entry.op d.file (reply_of d.entry.op)
@@ -359,9 +359,9 @@ module _ (k skew greatest : ℕ) (c : Cluster) (s : Server) (at : slice_get c.se
     stays : (x : Decided) → In x (decided_in then) → StaysDecided then x
     stays x i = record { put = put x i; bare = (fits_then x i).0; file = (fits_then x i).1; owed = decided_owed then x i }
 
-    commit_fits : DecidedFits (world_meanwhile t then)
+    commit_fits : DecidedFits (world_of t then)
     commit_fits = fits_again then t led
         (subst AreRecords (sym records_then) (after_all_kept records (staying sends es) view.1.all.records)) stays
 
-    pub commit_stands : WorldStands greatest (world_meanwhile t then)
+    pub commit_stands : WorldStands greatest (world_of t then)
     commit_stands = (commit_holds, commit_fits)

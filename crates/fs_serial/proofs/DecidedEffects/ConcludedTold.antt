@@ -53,12 +53,12 @@ use Rattle.fs_serial.specs.Commits.{IsCommitted}
 use Rattle.fs_serial.specs.Conclusions.{after_concluded}
 use Rattle.fs_serial.specs.Leading.{HasLockFor, IsCoveredBy, IsLeading, IsLedBy, IsToldOf}
 use Rattle.fs_serial.specs.Led.{IsLeadAnswer, LedStands}
-use Rattle.fs_serial.specs.Meanwhile.{ClusterStands, world_meanwhile}
 use Rattle.fs_serial.specs.Owed.{ends_in}
 use Rattle.fs_serial.specs.Pending.{HasUse}
 use Rattle.fs_serial.specs.Sight.{Sight}
 use Rattle.fs_serial.specs.Words.{key_of, rows_at, telling_of}
 use Rattle.fs_serial.specs.World.{settled_at, sight_in}
+use Rattle.fs_serial.specs.Seen.{ClusterHolds, world_of}
 use Rattle.fs_serial.proofs.DecidedEffects.CommitSeen.{decision_is}
 use Rattle.fs_serial.proofs.DecidedEffects.DecisionSeen as decides
 use Rattle.fs_serial.proofs.DecidedEffects.FileApart.{IsFileApart, file_apart}
@@ -79,7 +79,7 @@ first_there : {X : Type 0} (xs : List X) (x : X) → In x xs → is_some (slice_
 first_there [] x i = absurd i
 first_there (y ∷ ys) x i = refl
 
-module _ (k skew greatest : ℕ) (c : Cluster) (s : Server) (at : slice_get c.servers k ≡ Some s) (h : ClusterStands skew greatest c)
+module _ (k skew greatest : ℕ) (c : Cluster) (s : Server) (at : slice_get c.servers k ≡ Some s) (h : ClusterHolds skew greatest c)
     (l : Leading) (there : In l s.leading) where
   abbrev t : TxnNo
   t = l.leader.txn
@@ -135,7 +135,7 @@ module _ (k skew greatest : ℕ) (c : Cluster) (s : Server) (at : slice_get c.se
   client = subst (λ n. IsLedBy c.lines by n it) me leads.client
 
   abbrev now : Sight
-  now = sight_in (world_meanwhile s c)
+  now = sight_in (world_of s c)
 
   abbrev known : Known
   known = known_with (value_of now.records by)

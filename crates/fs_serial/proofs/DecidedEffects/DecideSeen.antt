@@ -27,14 +27,14 @@ use Rattle.fs_serial.specs.Exchange.{due}
 use Rattle.fs_serial.specs.Joined.{records_of_all, rows_of_all}
 use Rattle.fs_serial.specs.Leading.{LedHolds}
 use Rattle.fs_serial.specs.Locks.{at_home}
-use Rattle.fs_serial.specs.Meanwhile.{ClusterStands, held_meanwhile, world_meanwhile}
 use Rattle.fs_serial.specs.Owed.{ends_in}
 use Rattle.fs_serial.specs.Refusals.{rows_in}
-use Rattle.fs_serial.specs.Seen.{given_at, reaps_at}
+use Rattle.fs_serial.specs.Seen.{ClusterHolds, given_at, reaps_at, world_of}
 use Rattle.fs_serial.specs.Words.{decided_among, decided_at, decided_by, decided_in, ended_in, key_of, led_in, telling_of}
 use Rattle.fs_serial.specs.World.{Ends, World, WorldHolds}
 use Rattle.fs_serial.proofs.DecidedEffects.Applying.{decide_keeps, same_held}
 use Rattle.fs_serial.proofs.DecidedEffects.GuardsAgain.{IsPut, all_put, decided_again, guarded_again}
+use Rattle.fs_serial.proofs.DecidedEffects.HeldSeen.{held_seen}
 use Rattle.fs_serial.proofs.DecidedEffects.OwnApart.{own_apart}
 use Rattle.fs_serial.proofs.DecidedEffects.RelockedWorld.{relocked_holds, with_locks}
 use Rattle.fs_serial.proofs.DecidedEffects.ToldParts.{IsPutIn}
@@ -61,7 +61,7 @@ pub record StaysDecided (c : Cluster) (d : Decided) : Type 0 where
 
 -- its guards are those of the parts that are told
 pub fits_again : (c : Cluster) (t : Server) → LedHolds c → AreRecords (records_of_all c.servers (parcels_of c.in_flight))
-    → ((d : Decided) → In d (decided_in c) → StaysDecided c d) → DecidedFits (world_meanwhile t c)
+    → ((d : Decided) → In d (decided_in c) → StaysDecided c d) → DecidedFits (world_of t c)
 fits_again c t led records stays = record {
   all = record {
     records = records;
@@ -76,7 +76,7 @@ fits_again c t led records stays = record {
 }
 
 module _ (k from skew greatest : ℕ) (c : Cluster) (s : Server) (at : slice_get c.servers k ≡ Some s)
-    (h : ClusterStands skew greatest c) (m : ToDecide) (comes : IsThere k (FromPeer from (peer.Decide m)) c) where
+    (h : ClusterHolds skew greatest c) (m : ToDecide) (comes : IsThere k (FromPeer from (peer.Decide m)) c) where
   abbrev e : ServerEvent
   e = FromPeer from (peer.Decide m)
 
@@ -162,7 +162,7 @@ module _ (k from skew greatest : ℕ) (c : Cluster) (s : Server) (at : slice_get
       ∙ ap (records_after_all records) (sym its_effects)
 
   abbrev w : World
-  w = world_meanwhile s c
+  w = world_of s c
 
   own : IsOwnApart (before ++ behind) its
   own = subst (λ ds. IsOwnApart ds its)
@@ -175,14 +175,14 @@ module _ (k from skew greatest : ℕ) (c : Cluster) (s : Server) (at : slice_get
   applied_stands : WorldStands greatest applied
   applied_stands = decide_keeps greatest w before its behind whole own (h.parts s s_in)
 
-  pub unseen : held_meanwhile after ≡ held_meanwhile c
+  pub unseen : held_seen after ≡ held_seen c
   unseen = ap₂ (λ ds n. held_with (effects_in ds) n) decided_then records_then
       ∙ same_held greatest w before its behind whole own (h.parts s s_in)
 
   ends_then : (x : Session) → ends_in after x ≡ ends_in c x
   ends_then x = ends_same c.servers k s then at refl refl x (c.lines x)
 
-  alike : AreAlike (with_locks relock applied) (world_meanwhile then after)
+  alike : AreAlike (with_locks relock applied) (world_of then after)
   alike = record {
     rows = rows_then;
     records = ap₂ (λ ds n. held_with (effects_in ds) n) decided_then records_then;
@@ -194,8 +194,8 @@ module _ (k from skew greatest : ℕ) (c : Cluster) (s : Server) (at : slice_get
     ends = ends_then;
   }
 
-  decide_holds : WorldHolds greatest (world_meanwhile then after)
-  decide_holds = alike_holds greatest (with_locks relock applied) (world_meanwhile then after) alike applied_stands.0.clock
+  decide_holds : WorldHolds greatest (world_of then after)
+  decide_holds = alike_holds greatest (with_locks relock applied) (world_of then after) alike applied_stands.0.clock
       (relocked_holds relock (home_relock s relocked.change relocked.relock) greatest applied applied_stands.0)
 
   -- each that is left stays decided
@@ -221,5 +221,5 @@ module _ (k from skew greatest : ℕ) (c : Cluster) (s : Server) (at : slice_get
       }
 
   module _ (led : LedHolds after) where
-    pub decide_stands : WorldStands greatest (world_meanwhile then after)
+    pub decide_stands : WorldStands greatest (world_of then after)
     decide_stands = (decide_holds, fits_again after then led (subst AreRecords (sym records_then) (applied_stands.1).all.records) stays)

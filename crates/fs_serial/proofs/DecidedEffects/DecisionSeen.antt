@@ -30,15 +30,14 @@ use Rattle.fs_txn.specs.declared.decision.Decision.{Decision}
 use Rattle.fs_txn.specs.declared.leading.Ending.{Ending}
 use Rattle.fs_txn.specs.declared.leading.Leading.{Leading}
 use Rattle.fs_txn.proofs.Keys.{txn_is}
-use Rattle.fs_serial.specs.Cluster.{Cluster, in_flight_from, parcels_of, with_sent}
-use Rattle.fs_serial.specs.Conclusions.{with_items}
+use Rattle.fs_serial.specs.Cluster.{Cluster, in_flight_from, parcels_of, with_items, with_sent}
 use Rattle.fs_serial.specs.Decided.{decided_for}
 use Rattle.fs_serial.specs.Joined.{rows_of_all}
 use Rattle.fs_serial.specs.Leading.{IsLeading}
 use Rattle.fs_serial.specs.Locks.{IsRelock, at_home}
-use Rattle.fs_serial.specs.Meanwhile.{ClusterStands}
 use Rattle.fs_serial.specs.Refusals.{rows_in}
 use Rattle.fs_serial.specs.Words.{decided_at, decided_in, desks_of, ended_in, ending_at, led_in, leading_at, telling_of}
+use Rattle.fs_serial.specs.Seen.{ClusterHolds}
 use Rattle.fs_serial.proofs.DecidedEffects.Deciding.{not_awaited}
 use Rattle.fs_serial.proofs.Moves.Parcels.{parcels-append}
 use Rattle.fs_serial.proofs.Places.RelockedRows.{map_itself, rows_relocked, unlocked_relock}
@@ -75,7 +74,7 @@ words_decided k servers txn d x e (n ∷ ns) =
     ∙ sym (map-append (λ (y : Effect). let z : Decided = record { by = x.session; effect = y } in z) (told_effects d n.0)
     (flat_map (λ (n : ℕ × ℕ). told_effects d n.0) ns))
 
-module _ (k skew greatest : ℕ) (c : Cluster) (s : Server) (at : slice_get c.servers k ≡ Some s) (h : ClusterStands skew greatest c)
+module _ (k skew greatest : ℕ) (c : Cluster) (s : Server) (at : slice_get c.servers k ≡ Some s) (h : ClusterHolds skew greatest c)
     (l : Leading) (there : In l s.leading) (d : Decision) where
   abbrev t : TxnNo
   t = l.leader.txn

@@ -25,29 +25,30 @@ use Rattle.fs_serial.specs.Cluster.{Cluster, InFlight, parcels_of}
 use Rattle.fs_serial.specs.Decided.{DecidedStands}
 use Rattle.fs_serial.specs.Joined.{records_of_all}
 use Rattle.fs_serial.specs.Leading.{LedHolds}
-use Rattle.fs_serial.specs.Meanwhile.{ClusterStands, held_meanwhile}
 use Rattle.fs_serial.specs.Refusals.{rows_in}
 use Rattle.fs_serial.specs.Words.{decided_among, decided_by, decided_in}
+use Rattle.fs_serial.specs.Seen.{ClusterHolds}
 use Rattle.fs_serial.proofs.DecidedEffects.Deciding.{IsDeciding, among_told, deciding_in, its_effects, told_by}
 pub use Rattle.fs_serial.proofs.DecidedEffects.Deciding.{is_decided, its_session, told, told_effect, w}
+use Rattle.fs_serial.proofs.DecidedEffects.HeldSeen.{held_seen}
 use Rattle.fs_serial.proofs.DecidedEffects.OwnApart.{own_files}
 use Rattle.fs_serial.proofs.DecidedEffects.ToldParts.{IsPutIn, told_guarded}
 use Rattle.fs_serial.proofs.DecidedEffects.Underway.{effect_of, node_changed, place_all}
 
 -- a file that gets its place stands there in what all hold together
 abbrev pub IsPut : Cluster → Decided → Type 0
-IsPut c d = IsPutIn (nodes_of (held_meanwhile c)) d.effect
+IsPut c d = IsPutIn (nodes_of (held_seen c)) d.effect
 
 module _ (c : Cluster) (led : LedHolds c) (d : Decided) (f : InFlight) (there : In f c.in_flight) (p : IsDeciding c.servers f d) where
-  pub is_guarded : IsPut c d → IsGuarded (rows_in c) (nodes_of (held_meanwhile c)) d.by d.effect
+  pub is_guarded : IsPut c d → IsGuarded (rows_in c) (nodes_of (held_seen c)) d.by d.effect
   is_guarded put =
       let word = w c led d f there p in
-      subst (λ s. IsGuarded (rows_in c) (nodes_of (held_meanwhile c)) s d.effect) (its_session c led d f there p)
+      subst (λ s. IsGuarded (rows_in c) (nodes_of (held_seen c)) s d.effect) (its_session c led d f there p)
       (told_guarded c led _ word.at word.effects d.effect (told c led d f there p) (told_effect c led d f there p)
-      (nodes_of (held_meanwhile c)) put)
+      (nodes_of (held_seen c)) put)
 
 pub guarded_again : (c : Cluster) → LedHolds c → (d : Decided) → In d (decided_in c) → IsPut c d
-    → IsGuarded (rows_in c) (nodes_of (held_meanwhile c)) d.by d.effect
+    → IsGuarded (rows_in c) (nodes_of (held_seen c)) d.by d.effect
 guarded_again c led d i put =
     let q = deciding_in c.servers c.in_flight d i in
     is_guarded c led d q.0 q.1.0 q.1.1 put
@@ -64,7 +65,7 @@ split_in x [] i = absurd i
 split_in x (y ∷ ys) (inl e) = ([], (ys, ap (λ z. z ∷ ys) (sym e)))
 split_in x (y ∷ ys) (inr i) = let q = split_in x ys i in (y ∷ q.0, (q.1.0, ap (λ zs. y ∷ zs) q.1.1))
 
-alone_in : {X : Type 0} (x : X) (xs : List X) → In x xs → length xs ≤ 1 → xs ≡ x ∷ []
+pub alone_in : {X : Type 0} (x : X) (xs : List X) → In x xs → length xs ≤ 1 → xs ≡ x ∷ []
 alone_in x [] i n = absurd i
 alone_in x (y ∷ []) (inl e) n = ap (λ z. z ∷ []) (sym e)
 alone_in x (y ∷ []) (inr i) n = absurd i
@@ -76,12 +77,12 @@ put_in : (o : Option Node) (file dir name : List ℕ) (p : List ℕ × List ℕ)
 put_in None file dir name p h = absurd (cc)
 put_in (Some n) file dir name p h = refl
 
-module _ (skew greatest : ℕ) (c : Cluster) (h : ClusterStands skew greatest c) (s : Server) (s_in : In s c.servers) where
+module _ (skew greatest : ℕ) (c : Cluster) (h : ClusterHolds skew greatest c) (s : Server) (s_in : In s c.servers) where
   abbrev records : RecordMap
   records = records_of_all c.servers (parcels_of c.in_flight)
 
   abbrev held : RecordMap
-  held = held_meanwhile c
+  held = held_seen c
 
   stands : (d : Decided) → In d (decided_in c) → DecidedStands (rows_in c) records (nodes_of held) c.journal d
   stands d i = ((h.parts s s_in).1).all.stand d i

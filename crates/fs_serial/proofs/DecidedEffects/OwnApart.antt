@@ -28,9 +28,9 @@ use Rattle.fs_serial.specs.Cluster.{Cluster, InFlight}
 use Rattle.fs_serial.specs.Decided.{IsOwnApart}
 use Rattle.fs_serial.specs.Exchange.{OneExchange, due}
 use Rattle.fs_serial.specs.Leading.{LedHolds}
-use Rattle.fs_serial.specs.Meanwhile.{ClusterStands}
 use Rattle.fs_serial.specs.Owed.{ends_in}
 use Rattle.fs_serial.specs.Words.{decided_among, decided_by, desks_of, key_of, stage_of_key, telling_of, told_in}
+use Rattle.fs_serial.specs.Seen.{ClusterHolds}
 use Rattle.fs_serial.proofs.DecidedEffects.Deciding.{IsDeciding, deciding_by, deciding_in, its_ending, its_session, told, told_as, told_effect, w, word}
 use Rattle.fs_serial.proofs.Lists.Servers.{In_at}
 use Rattle.fs_serial.proofs.Replies.Knowing.{In-filter_map}
@@ -89,7 +89,7 @@ one_due k (Some x) up down (inr q) =
     let a : length up ≡ 0 = ap length q.asked in
     let b : length (due down) ≡ 1 = ap length q.told in omega (arith, a, b)
 
-module _ (skew greatest : ℕ) (c : Cluster) (h : ClusterStands skew greatest c) where
+module _ (skew greatest : ℕ) (c : Cluster) (h : ClusterHolds skew greatest c) where
   abbrev led : LedHolds c
   led = h.led
 

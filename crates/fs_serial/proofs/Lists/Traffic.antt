@@ -18,9 +18,9 @@ use Rattle.fs_server.specs.declared.event.ServerEvent.TheVariants as event
 use Rattle.fs_client.specs.declared.state.Client.{Client}
 use Rattle.fs_serial.specs.Cluster.{Cluster, IsThere, Lines, is_with, with_answer, with_lines, with_sent, without_first, without_question}
 use Rattle.fs_serial.specs.Exchange.{OneExchange}
-use Rattle.fs_serial.specs.Seen.{ends_of}
 use Rattle.fs_serial.specs.World.{Ends, message_in, pushed, with_ends}
 use Rattle.fs_serial.specs.World as world
+use Rattle.fs_serial.specs.Owed.{ends_of}
 use Rattle.fs_serial.proofs.OneServer.ServerEvents.{one_up}
 
 abbrev pub messages : {X : Type 0} → List (ℕ × X) → List X

@@ -1,5 +1,6 @@
 -- A parcel that comes: it fits, all rows and records are as before, and everything is at its place.
-use Rattle.std.proofs.Common.{◌≡◌, ◌≤◌, ◌++◌, ℕ, true, List, [], refl, ap, sym, ◌∙◌, subst, append-nil, ◌<◌, length}
+use Rattle.std.proofs.Common.{◌≡◌, ◌≤◌, ◌++◌, ℕ, true, List, [], refl, ap, sym, ◌∙◌, subst, append-nil, ◌<◌, length, Bool, ap₂, ◌∷◌}
+use Rattle.std.proofs.lemmas.Grind.{flat_map-append}
 use Rattle.std.specs.Prelude.{Some, slice_get, slice_set}
 use Rattle.std.specs.List.{find}
 use Rattle.fs_ident.specs.In.{In}
@@ -11,12 +12,14 @@ use Rattle.fs_server.specs.Moves.{fits_here, installed}
 use Rattle.fs_server.specs.Server.{only_noted}
 use Rattle.fs_server.specs.declared.event.ServerEvent.TheVariants.{FromPeer}
 use Rattle.fs_server.specs.declared.state.Server.{Server}
+use Rattle.fs_txn.specs.Decided.{held_with}
+use Rattle.fs_serial.proofs.Lists.Traffic.{taken_first}
 use Rattle.fs_serial.specs.Cluster.{Cluster, InFlight, after_step, is_between, parcels_of, without_first}
-use Rattle.fs_serial.specs.Joined.{records_of_all, rows_of_all}
+use Rattle.fs_serial.specs.Joined.{effects_by, effects_on_way, records_of_all, rows_of_all}
 use Rattle.fs_serial.specs.Parts.{ServersFit, ServersHold}
 use Rattle.fs_serial.specs.Places.{PlacesHold}
 use Rattle.fs_serial.specs.Refusals.{rows_in}
-use Rattle.fs_serial.specs.Runs.{held_by}
+use Rattle.fs_serial.specs.Runs.{held_by, records_in}
 use Rattle.fs_serial.specs.Seen.{with_all}
 use Rattle.fs_serial.specs.Sight.{Counts, count_with, sight_of}
 use Rattle.fs_serial.proofs.Moves.ComingParts.{came_home, came_managed, came_named, came_parts}
@@ -31,6 +34,7 @@ use Rattle.fs_serial.proofs.Moves.Replaced.{replaced, replaced_places}
 use Rattle.fs_serial.proofs.Lists.SetAt.{In_kept, In_new, In_set, In_without}
 use Rattle.fs_serial.proofs.Lists.Times.{all_once}
 use Rattle.std.proofs.lemmas.Option.{slice_get_within}
+use Rattle.fs_field.specs.declared.effect.Effect.{Effect}
 
 module _ (k from : ℕ) (c : Cluster) (s : Server) (p : Parcel) (at : slice_get c.servers k ≡ Some s) (h : PlacesHold c) (way : find (is_between from k) c.in_flight ≡ Some (record { from = from; to = k; message = peer.Parcel p })) where
   abbrev comes : InFlight
@@ -104,7 +108,7 @@ parcel_fits k from c s p at h way o hold fit = parcel_stands k from c s p at h w
 pub arriving_same : (k from : ℕ) (c : Cluster) (s : Server) (p : Parcel) → slice_get c.servers k ≡ Some s → PlacesHold c
     → find (is_between from k) c.in_flight ≡ Some (record { from = from; to = k; message = peer.Parcel p })
     → (rows_in (after_step k (FromPeer from (peer.Parcel p)) (only_noted (note.Installs p.prefix) (installed p s)) c) ≡ rows_in c)
-    × (held_by (after_step k (FromPeer from (peer.Parcel p)) (only_noted (note.Installs p.prefix) (installed p s)) c) ≡ held_by c)
+    × (records_in (after_step k (FromPeer from (peer.Parcel p)) (only_noted (note.Installs p.prefix) (installed p s)) c) ≡ records_in c)
 arriving_same k from c s p at h way =
     let later : List Server = slice_set c.servers k (installed p s) in
     let none : without_first (is_between from k) c.in_flight ++ [] ≡ without_first (is_between from k) c.in_flight = append-nil (without_first (is_between from k) c.in_flight) in (
@@ -118,3 +122,18 @@ pub arriving_places : (k from : ℕ) (c : Cluster) (s : Server) (p : Parcel) →
     → PlacesHold (after_step k (FromPeer from (peer.Parcel p)) (only_noted (note.Installs p.prefix) (installed p s)) c)
 arriving_places k from c s p at h way =
     subst (λ fs. PlacesHold (replaced k (installed p s) fs c.lines c)) (sym (append-nil (without_first (is_between from k) c.in_flight))) (places_then k from c s p at h way)
+
+-- and so is what all hold together, since a parcel tells no effect
+pub arriving_keeps : (k from : ℕ) (c : Cluster) (s : Server) (p : Parcel) → slice_get c.servers k ≡ Some s → PlacesHold c
+    → find (is_between from k) c.in_flight ≡ Some (record { from = from; to = k; message = peer.Parcel p })
+    → (rows_in (after_step k (FromPeer from (peer.Parcel p)) (only_noted (note.Installs p.prefix) (installed p s)) c) ≡ rows_in c)
+    × (held_by (after_step k (FromPeer from (peer.Parcel p)) (only_noted (note.Installs p.prefix) (installed p s)) c) ≡ held_by c)
+arriving_keeps k from c s p at h way =
+    let is : InFlight → Bool = is_between from k in
+    let q = taken_first is c.in_flight (record { from = from; to = k; message = peer.Parcel p }) way in
+    let each : InFlight → List Effect = λ g. effects_by g.message in
+    let told : effects_on_way (without_first is c.in_flight ++ []) ≡ effects_on_way c.in_flight =
+    ap effects_on_way (append-nil (without_first is c.in_flight) ∙ q.left) ∙ flat_map-append each q.front q.back
+    ∙ sym (flat_map-append each q.front (record { from = from; to = k; message = peer.Parcel p } ∷ q.back)) ∙ sym (ap effects_on_way q.whole) in
+    let same = arriving_same k from c s p at h way in
+    (same.0, ap₂ held_with told same.1)

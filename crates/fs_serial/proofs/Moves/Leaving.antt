@@ -1,5 +1,6 @@
 -- What a server hands over to another: all rows and records are as before, and everything is at its place.
-use Rattle.std.proofs.Common.{◌≡◌, ◌⊎◌, ◌==◌, ◌+◌, ◌<◌, ◌≤◌, ◌++◌, not, ℕ, Bool, true, false, List, [], ◌∷◌, length, refl, ap, sym, ◌∙◌, subst, inl, inr, cond, append-nil, arith}
+use Rattle.std.proofs.Common.{◌≡◌, ◌⊎◌, ◌==◌, ◌+◌, ◌<◌, ◌≤◌, ◌++◌, not, ℕ, Bool, true, false, List, [], ◌∷◌, length, refl, ap, sym, ◌∙◌, subst, inl, inr, cond, append-nil, arith, ap₂}
+use Rattle.std.proofs.lemmas.Grind.{flat_map-append}
 use Rattle.std.specs.Prelude.{IfSome, Option, Some, None, is_some, slice_get, slice_set}
 use Rattle.std.specs.FinMap.{get}
 use Rattle.std.proofs.lemmas.Bool.{not-true}
@@ -34,13 +35,14 @@ use Rattle.fs_server.specs.declared.state.Server.{Server}
 use Rattle.fs_msg.specs.declared.server_note.ServerNote.TheVariants as note
 use Rattle.fs_model.specs.Sound.{kind_of}
 use Rattle.fs_record.specs.Records.{AreRecords, RecordMap, node_of}
-use Rattle.fs_serial.specs.Cluster.{Cluster, InFlight, after_step, parcels_of}
+use Rattle.fs_txn.specs.Decided.{held_with}
+use Rattle.fs_serial.specs.Cluster.{Cluster, InFlight, after_step, in_flight_from, parcels_of}
 use Rattle.fs_serial.specs.Fresh.{IsMade}
-use Rattle.fs_serial.specs.Joined.{records_of_all, rows_of_all}
+use Rattle.fs_serial.specs.Joined.{effects_by, effects_on_way, records_of_all, rows_of_all}
 use Rattle.fs_serial.specs.Parts.{ServersFit}
 use Rattle.fs_serial.specs.Places.{IsHome, IsSent, OnePlace, PlacesHold, IsUnderway}
 use Rattle.fs_serial.specs.Refusals.{rows_in}
-use Rattle.fs_serial.specs.Runs.{held_by}
+use Rattle.fs_serial.specs.Runs.{held_by, records_in}
 use Rattle.fs_serial.specs.Seen.{with_all}
 use Rattle.fs_serial.specs.Sight.{Counts, sight_of}
 use Rattle.fs_serial.proofs.Lists.Counted.{total, total_append, total_set}
@@ -119,8 +121,19 @@ module _ (k : ℕ) (c : Cluster) (s : Server) (prefix : List ℕ) (to : ℕ) (at
 
 -- all rows and records are as before
 pub leaving_same : (k : ℕ) (c : Cluster) (s : Server) (prefix : List ℕ) (to : ℕ) → slice_get c.servers k ≡ Some s → PlacesHold c
-    → (rows_in (after_step k (Move prefix to) (hands_over prefix to s) c) ≡ rows_in c) × (held_by (after_step k (Move prefix to) (hands_over prefix to s) c) ≡ held_by c)
+    → (rows_in (after_step k (Move prefix to) (hands_over prefix to s) c) ≡ rows_in c) × (records_in (after_step k (Move prefix to) (hands_over prefix to s) c) ≡ records_in c)
 leaving_same k c s prefix to at h = (rows_then k c s prefix to at h, records_then k c s prefix to at h)
+
+-- and so is what all hold together, since a parcel tells no effect
+pub leaving_keeps : (k : ℕ) (c : Cluster) (s : Server) (prefix : List ℕ) (to : ℕ) → slice_get c.servers k ≡ Some s → PlacesHold c
+    → (rows_in (after_step k (Move prefix to) (hands_over prefix to s) c) ≡ rows_in c)
+    × (held_by (after_step k (Move prefix to) (hands_over prefix to s) c) ≡ held_by c)
+leaving_keeps k c s prefix to at h =
+    let same = leaving_same k c s prefix to at h in
+    let sent = in_flight_from k (hands_over prefix to s).out.send in
+    let told : effects_on_way (c.in_flight ++ sent) ≡ effects_on_way c.in_flight =
+    flat_map-append (λ (g : InFlight). effects_by g.message) c.in_flight sent ∙ append-nil (effects_on_way c.in_flight) in
+    (same.0, ap₂ held_with told same.1)
 
 -- ## What a move needs
 
@@ -161,7 +174,7 @@ abbrev pub LivesMade : RecordMap → List Item → Type 0
 LivesMade m journal = (id : List ℕ) (kind : Kind) → kind_of (node_of (get m id)) ≡ Some kind → IsMade journal id
 
 module _ (k : ℕ) (c : Cluster) (s : Server) (prefix : List ℕ) (to : ℕ) (at : slice_get c.servers k ≡ Some s) (h : PlacesHold c)
-    (records : AreRecords (held_by c)) (lives : LivesMade (held_by c) c.journal) (m : CanMove s prefix to) where
+    (records : AreRecords (records_in c)) (lives : LivesMade (records_in c) c.journal) (m : CanMove s prefix to) where
   abbrev left : Server
   left = without_given prefix to s
 
@@ -175,7 +188,7 @@ module _ (k : ℕ) (c : Cluster) (s : Server) (prefix : List ℕ) (to : ℕ) (at
   home = h.homes s here
 
   -- a record of the server is that of all
-  of_all : (id : List ℕ) (r : Record) → get s.records id ≡ Some r → get (held_by c) id ≡ Some r
+  of_all : (id : List ℕ) (r : Record) → get s.records id ≡ Some r → get (records_in c) id ≡ Some r
   of_all id r e = has_record c.servers (parcels_of c.in_flight) (one_record c h) id r (inl (s, here, e))
 
   sound : AreRecords s.records
@@ -183,13 +196,13 @@ module _ (k : ℕ) (c : Cluster) (s : Server) (prefix : List ℕ) (to : ℕ) (at
     where
       go : (o : Option Record) → get s.records id ≡ o → IfSome o IsRecord
       go None e = tt
-      go (Some r) e = record_at (held_by c) records id r (of_all id r e)
+      go (Some r) e = record_at (records_in c) records id r (of_all id r e)
 
   -- the prefix was made, since it lives
   prefix_made : IsMade c.journal prefix
   prefix_made =
       let r : (r : Record) × (get s.records prefix ≡ Some r) = there_is (get s.records prefix) m.lives in
-      let kind : kind_of (node_of (get (held_by c) prefix)) ≡ Some r.0.node.kind = ap (λ (o : Option Record). kind_of (node_of o)) (of_all prefix r.0 r.1) in
+      let kind : kind_of (node_of (get (records_in c) prefix)) ≡ Some r.0.node.kind = ap (λ (o : Option Record). kind_of (node_of o)) (of_all prefix r.0 r.1) in
       lives prefix r.0.node.kind kind
 
   row_home : (r : Row) → In r (rows_left prefix given s.rows) → is_mine left (file_of r.field) ≡ true
@@ -259,7 +272,7 @@ module _ (k : ℕ) (c : Cluster) (s : Server) (prefix : List ℕ) (to : ℕ) (at
       (rows_then k c s prefix to at h)
 
 -- where what servers fit is so
-fit_lives : (c : Cluster) (s : Server) (o : Counts) → ServersFit (sight_of o (with_all s c) c.journal) → LivesMade (held_by c) c.journal
+fit_lives : (c : Cluster) (s : Server) (o : Counts) → ServersFit (sight_of o (with_all s c) c.journal) → LivesMade (records_in c) c.journal
 fit_lives c s o f id kind e = ap (λ (k : Option Kind). is_some k) (f.made id kind e)
 
 -- everything is at its place
@@ -280,18 +293,18 @@ stays_cluster k c s prefix to why at =
     ∙ ap (λ (is : List Item). let d : Cluster = record { servers = c.servers; in_flight = c.in_flight; journal = is; replied = c.replied; lines = c.lines } in d) (append-nil c.journal)
 
 abbrev IsSameAfter : ℕ → List ℕ → ℕ → Server → Cluster → Option MoveError → Type 0
-IsSameAfter k prefix to s c e = (rows_in (after_step k (Move prefix to) (move_at e prefix to s) c) ≡ rows_in c) × (held_by (after_step k (Move prefix to) (move_at e prefix to s) c) ≡ held_by c)
+IsSameAfter k prefix to s c e = (rows_in (after_step k (Move prefix to) (move_at e prefix to s) c) ≡ rows_in c) × (records_in (after_step k (Move prefix to) (move_at e prefix to s) c) ≡ records_in c)
 
 pub move_same : (k : ℕ) (c : Cluster) (s : Server) (prefix : List ℕ) (to : ℕ) → slice_get c.servers k ≡ Some s → PlacesHold c
-    → (rows_in (after_step k (Move prefix to) (move_step prefix to s) c) ≡ rows_in c) × (held_by (after_step k (Move prefix to) (move_step prefix to s) c) ≡ held_by c)
+    → (rows_in (after_step k (Move prefix to) (move_step prefix to s) c) ≡ rows_in c) × (records_in (after_step k (Move prefix to) (move_step prefix to s) c) ≡ records_in c)
 move_same k c s prefix to at h = go (move_refusal s.records s.rows s.map s.me prefix to None)
   where
     go : (e : Option MoveError) → IsSameAfter k prefix to s c e
     go None = leaving_same k c s prefix to at h
-    go (Some why) = (ap rows_in (stays_cluster k c s prefix to why at), ap held_by (stays_cluster k c s prefix to why at))
+    go (Some why) = (ap rows_in (stays_cluster k c s prefix to why at), ap records_in (stays_cluster k c s prefix to why at))
 
 pub moved_places : (k : ℕ) (c : Cluster) (s : Server) (prefix : List ℕ) (to : ℕ) → slice_get c.servers k ≡ Some s → PlacesHold c
-    → AreRecords (held_by c) → LivesMade (held_by c) c.journal → to < length c.servers
+    → AreRecords (records_in c) → LivesMade (records_in c) c.journal → to < length c.servers
     → PlacesHold (after_step k (Move prefix to) (move_step prefix to s) c)
 moved_places k c s prefix to at h records lives is = go (move_refusal s.records s.rows s.map s.me prefix to None) refl
   where

@@ -50,7 +50,7 @@ use Rattle.fs_serial.specs.Cluster.{Cluster, parcels_of}
 use Rattle.fs_serial.specs.Rows.{NoRowsConflict, PromisesKept, RowsCounted, RowsGiven}
 use Rattle.fs_serial.specs.Places.{PlacesHold, gives_it}
 use Rattle.fs_serial.specs.Refusals.{rows_in}
-use Rattle.fs_serial.specs.Runs.{held_by}
+use Rattle.fs_serial.specs.Runs.{records_in}
 use Rattle.fs_serial.specs.Seen.{with_all}
 use Rattle.fs_serial.specs.Sight.{Counts, count_with}
 use Rattle.fs_serial.proofs.Moves.ComingParts.{once}
@@ -116,7 +116,7 @@ module _ (c : Cluster) (h : PlacesHold c) (s : Server) (i : In s c.servers) (p :
   all = rows_in c
 
   abbrev records : RecordMap
-  records = held_by c
+  records = records_in c
 
   -- nothing that it gives is here
   apart : (id : List ℕ) → is_mine s id ≡ true → gives_it id p ≡ true → ⊥

@@ -1,5 +1,5 @@
 -- In a cluster where everything is at its place, what comes of an event at a server comes of it at the one that has all.
-use Rattle.std.proofs.Common.{◌≡◌, ℕ, ◌==◌, ◌≤◌, true, false, List, [], ◌++◌, refl, ap, ap₂, cond, subst, sym, ◌∙◌, inl, inr, append-nil}
+use Rattle.std.proofs.Common.{◌≡◌, ℕ, ◌==◌, ◌≤◌, true, false, List, ◌++◌, refl, ap, ap₂, cond, subst, sym, ◌∙◌, inl, inr, append-nil}
 use Rattle.std.specs.Prelude.{Option, Some, None, option_map, slice_get, unwrap_or}
 use Rattle.std.specs.FinMap.{get}
 use Rattle.std.specs.Cmp.{nat_eq_equiv}
@@ -51,11 +51,10 @@ use Rattle.fs_serial.specs.Fresh.{ByLog, IsMade}
 use Rattle.fs_serial.specs.Joined.{records_of_all, rows_of_all}
 use Rattle.fs_serial.specs.Pending.{IsEntry, NamesItsFile, named_by}
 use Rattle.fs_serial.specs.Places.{IsHome, PlacesHold}
-use Rattle.fs_serial.specs.Seen.{counts_of, ends_of, given_at, with_all, world_of}
+use Rattle.fs_serial.specs.Seen.{counts_of, given_at, with_all}
 use Rattle.fs_serial.specs.Settled.{Settled}
 use Rattle.fs_serial.specs.World.{Ends, IsThere, World, WorldHolds, settled_at}
 use Rattle.fs_serial.proofs.DecidedEffects.GrantsPast.{all_decided, going_of, next_held}
-use Rattle.fs_serial.proofs.DecidedEffects.Owing.{none_fits}
 use Rattle.fs_serial.proofs.DecidedEffects.Underway.{kind_held}
 use Rattle.fs_serial.proofs.Lists.Children.{the_child}
 use Rattle.fs_serial.proofs.Lists.Journals.{below_itself}
@@ -68,7 +67,7 @@ use Rattle.fs_serial.proofs.OneServer.SimAsk.{HasFreshHere, ask_sim}
 use Rattle.fs_serial.proofs.OneServer.SimPairs.{ArePairsHere, recall_sim, release_sim, renew_sim}
 use Rattle.fs_serial.proofs.OneServer.SimShip.{AreEntriesHere, ship_sim}
 use Rattle.fs_serial.proofs.OneServer.SimTurn.{lapsed_here, turn_sim}
-use Rattle.fs_serial.proofs.LedOperations.Unled.{IsOther}
+use Rattle.fs_serial.specs.World.{IsOther}
 
 -- ## What it is
 
@@ -307,10 +306,3 @@ begun_in greatest k c s (FromPeer from m) is places ds ends w f there o q = absu
 begun_in greatest k c s Turn is places ds ends w f there o q = absurd (q refl)
 begun_in greatest k c s (Recall field) is places ds ends w f there o q = recall_same k c s field is places
 begun_in greatest k c s (Move prefix to) is places ds ends w f there o q = absurd there
-
--- where nothing is decided
-pub begun_same : (greatest k : ℕ) (c : Cluster) (s : Server) (e : ServerEvent) → slice_get c.servers k ≡ Some s → PlacesHold c
-    → WorldHolds greatest (world_of s c) → IsThere e (world_of s c).ends → IsOther e → (e ≡ Turn → ⊥)
-    → IsSameStep k e s (event_step e s) (event_step e (with_all s c)) c
-begun_same greatest k c s e is places w =
-    begun_in greatest k c s e is places [] (λ x. ends_of (c.lines x)) w (none_fits greatest (world_of s c) refl w)

@@ -53,7 +53,7 @@ use Rattle.fs_serial.proofs.ClientMessages.Sending.{asked, goes_of, recall_all, 
 use Rattle.fs_serial.proofs.Admission.ShipLoop.{IsShipped, shipped_still}
 use Rattle.fs_serial.proofs.OneServer.ServerSame.{asked_same, ships_same}
 use Rattle.fs_serial.proofs.Returns.ServerTurn.{turn_keeps}
-use Rattle.fs_serial.proofs.LedOperations.Unled.{IsOther}
+use Rattle.fs_serial.specs.World.{IsOther}
 
 -- ## Questions for leases
 

@@ -3,7 +3,7 @@ use Rattle.std.proofs.Common.{◌≡◌, ℕ, zero, suc, ◌+◌, ◌≤◌, ◌
 use Rattle.std.specs.Prelude.{◌≢◌, Some, is_some, slice_get, slice_set}
 use Rattle.std.specs.List.{filter}
 use Rattle.std.proofs.lemmas.Bool.{or_parts, eqb-true, eqb-false, ltb-false}
-use Rattle.std.specs.FinMap.{empty, entries}
+use Rattle.std.specs.FinMap.{entries}
 use Rattle.fs_ident.specs.In.{In}
 use Rattle.fs_ident.proofs.Standing.{In-filter, In-got}
 use Rattle.fs_field.specs.Field.{file_of}
@@ -21,15 +21,11 @@ use Rattle.fs_server.specs.declared.event.ServerEvent.{ServerEvent}
 use Rattle.fs_server.specs.declared.event.ServerEvent.TheVariants as event
 use Rattle.fs_server.specs.declared.state.Server.{Server}
 use Rattle.fs_serial.specs.Cluster.{Cluster, IsThere, parcels_of}
-use Rattle.fs_serial.specs.Joined.{rows_of_all, with_all_of, with_parcels, with_rows_in, with_rows_of}
+use Rattle.fs_serial.specs.Joined.{rows_of_all, with_all_of, with_rows_in, with_rows_of}
 use Rattle.fs_serial.specs.Places.{IsHome, PlacesHold, gives_it, IsUnderway}
-use Rattle.fs_serial.specs.Seen.{ClusterHolds, given_at, reaps_at, world_of}
-use Rattle.fs_serial.specs.World.{World, WorldHolds}
 use Rattle.fs_serial.proofs.Places.AtHome.{others_rows, parcels_rows}
-use Rattle.fs_serial.proofs.OtherSessions.Rising.{lapse_some_keeps, last_rises}
 use Rattle.fs_serial.proofs.Lists.Servers.{as_many}
 use Rattle.fs_serial.proofs.Lists.SetAt.{In_set, get_here, get_other}
-use Rattle.fs_serial.proofs.WholeRuns.Views.{all_views, alike_holds, count_set}
 
 -- ## Filtered lists
 
@@ -174,47 +170,3 @@ module _ (greatest now k : ℕ) (s : Server) (c : Cluster) (at : slice_get c.ser
         records = home.records;
         ordered = ordered_filter (is_live (max s.last now) s.skew) s.rows home.ordered;
       }) (subst (λ rs. is_ordered rs ≡ true) (sym rows_are) (ordered_filter keep (rows_of_all c.servers (parcels_of c.in_flight)) places.ordered))
-
-module _ (skew greatest now k : ℕ) (s : Server) (c : Cluster) (at : slice_get c.servers k ≡ Some s) (before : max s.last now ≤ greatest) (h : ClusterHolds skew greatest c) where
-  abbrev then : Cluster
-  then = begun_at now k s c
-
-  view_then : WorldHolds greatest (world_of (begun now s) then)
-  view_then =
-      let w = world_of s c in
-      let lapsed : World = record w { server = record w.server { rows = filter (keep greatest now k s c at before h.places) w.server.rows } } in
-      let rest = lapse_some_keeps greatest w (keep greatest now k s c at before h.places) (λ r i e. over greatest now k s c at before h.places r e) (h.parts s (In-got c.servers k s at)) in
-      let risen : World = record lapsed { server = record lapsed.server { last = max s.last now } } in
-      let me = h.places.numbered k s at in
-      alike_holds greatest risen (world_of (begun now s) then) (record {
-        rows = rows_are greatest now k s c at before h.places;
-        records = ap (with_parcels (parcels_of c.in_flight)) (same_records c.servers k s (begun now s) empty at refl);
-        skew = refl;
-        given = λ j. count_set given_at c.servers k s.me s.given (begun now s) me j;
-        reaps = λ j. count_set reaps_at c.servers k s.me s.reaps (begun now s) me j;
-        journal = refl;
-        replied = refl;
-        ends = λ x. refl;
-      }) before (last_rises greatest (max s.last now) lapsed before rest)
-
-  skewed_then : (t : Server) → In t then.servers → t.skew ≡ skew
-  skewed_then t i = elim (In_set c.servers k (begun now s) t i) as (λ _. t.skew ≡ skew) [
-    | inl e ↦ ap (λ (u : Server). u.skew) e ∙ h.skewed s (In-got c.servers k s at)
-    | inr j ↦ h.skewed t j
-  ]
-
-  clocks_then : (t : Server) → In t then.servers → t.last ≤ greatest
-  clocks_then t i = elim (In_set c.servers k (begun now s) t i) as (λ _. t.last ≤ greatest) [
-    | inl e ↦ let q : t.last ≡ max s.last now = ap (λ (u : Server). u.last) e in omega arith
-    | inr j ↦ (h.parts t j).clock
-  ]
-
-  -- all that holds holds when the event begins
-  pub begins : ClusterHolds skew greatest then
-  begins = record {
-    parts = all_views skew greatest k then (begun now s) (get_here c.servers k s (begun now s) at) (places_then greatest now k s c at before h.places) skewed_then clocks_then view_then;
-    skewed = skewed_then;
-    addressed = h.addressed;
-    places = places_then greatest now k s c at before h.places;
-    handovers = h.handovers;
-  }

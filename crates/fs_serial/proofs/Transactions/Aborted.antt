@@ -47,10 +47,9 @@ use Rattle.fs_serial.specs.Exchange.{due}
 use Rattle.fs_serial.specs.Joined.{records_of_all, with_parcels}
 use Rattle.fs_serial.specs.Leading.{IsLeading}
 use Rattle.fs_serial.specs.Locks.{at_home}
-use Rattle.fs_serial.specs.Meanwhile.{ClusterStands, world_meanwhile}
 use Rattle.fs_serial.specs.Owed.{ends_in}
 use Rattle.fs_serial.specs.Refusals.{rows_in}
-use Rattle.fs_serial.specs.Seen.{counts_of, given_at, reaps_at, with_all}
+use Rattle.fs_serial.specs.Seen.{ClusterHolds, counts_of, given_at, reaps_at, with_all, world_of}
 use Rattle.fs_serial.specs.Settled.{Settled, led_freed, led_over}
 use Rattle.fs_serial.specs.Words.{decided_in, ended_in, kept_at, said_at}
 use Rattle.fs_serial.specs.World.{Ends, World, WorldHolds}
@@ -120,7 +119,7 @@ none_told e (n ∷ ns) = none_told e ns
 
 -- ## All that holds
 
-module _ (k skew greatest : ℕ) (c : Cluster) (s : Server) (at : slice_get c.servers k ≡ Some s) (h : ClusterStands skew greatest c)
+module _ (k skew greatest : ℕ) (c : Cluster) (s : Server) (at : slice_get c.servers k ≡ Some s) (h : ClusterHolds skew greatest c)
     (l : Leading) (there : In l s.leading) (e : LedEnd) (freeing : IsFreeing e) where
   abbrev d : Decision
   d = Abort e
@@ -132,7 +131,7 @@ module _ (k skew greatest : ℕ) (c : Cluster) (s : Server) (at : slice_get c.se
   t = l.leader.txn
 
   abbrev w : World
-  w = world_meanwhile s c
+  w = world_of s c
 
   abbrev pub after : Cluster
   after = decides.after k skew greatest c s at h l there d
@@ -292,11 +291,11 @@ module _ (k skew greatest : ℕ) (c : Cluster) (s : Server) (at : slice_get c.se
       ∙ ap (with_parcels (parcels_of c.in_flight))
       (same_records c.servers k s server_then empty at (ap (records_after_all s.records) (none_told e (own_parts s.me l))))
 
-  pub aborted_stands : WorldStands greatest (world_meanwhile server_then after)
+  pub aborted_stands : WorldStands greatest (world_of server_then after)
   aborted_stands =
       let rows : rows_in after ≡ map change (rows_in c) = decides.rows_are k skew greatest c s at h l there d in
       let journal : c.journal ++ [] ≡ c.journal = append-nil c.journal in (
-        alike_holds greatest relocked (world_meanwhile server_then after) (record {
+        alike_holds greatest relocked (world_of server_then after) (record {
           rows = rows;
           records = ap₂ (λ (ds : List Decided) (m : RecordMap). held_with (effects_in ds) m) decided_still records_still;
           skew = refl;
@@ -306,14 +305,14 @@ module _ (k skew greatest : ℕ) (c : Cluster) (s : Server) (at : slice_get c.se
           replied = refl;
           ends = λ y. refl;
         }) view.0.clock relocked_now,
-        fits_alike relocked (world_meanwhile server_then after) decided_still rows records_still journal (λ y. refl) relocked_fits,
+        fits_alike relocked (world_of server_then after) decided_still rows records_still journal (λ y. refl) relocked_fits,
       )
 
-pub abort_stands : (k skew greatest : ℕ) (c : Cluster) (s : Server) → slice_get c.servers k ≡ Some s → ClusterStands skew greatest c
+pub abort_stands : (k skew greatest : ℕ) (c : Cluster) (s : Server) → slice_get c.servers k ≡ Some s → ClusterHolds skew greatest c
     → (l : Leading) → leading_of l.leader.txn s.leading ≡ Some l → (e : LedEnd) → decision l.leader None ≡ Abort e
-    → WorldStands greatest (world_meanwhile (concludes l [] s).server (after_concluded k l s c))
+    → WorldStands greatest (world_of (concludes l [] s).server (after_concluded k l s c))
 abort_stands k skew greatest c s at h l led e is =
     let there : In l s.leading = (found (λ (z : Leading). same_txn z.leader.txn l.leader.txn) s.leading l led).0 in
-    subst (λ (d : Decision). WorldStands greatest (world_meanwhile (decides.y k skew greatest c s at h l there d)
+    subst (λ (d : Decision). WorldStands greatest (world_of (decides.y k skew greatest c s at h l there d)
     (decides.after k skew greatest c s at h l there d))) (sym is)
     (aborted_stands k skew greatest c s at h l there e (abort_frees l.leader e is))

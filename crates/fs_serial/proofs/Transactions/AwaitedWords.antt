@@ -9,23 +9,26 @@ use Rattle.fs_ident.proofs.Booleans.{joined}
 use Rattle.fs_ident.proofs.Passing.{found}
 use Rattle.fs_ident.proofs.Same.{itself}
 use Rattle.fs_ident.proofs.Standing.{In-got}
+use Rattle.fs_ident.specs.declared.actor.Peer.{Peer}
 use Rattle.fs_field.specs.declared.used.Part.{Part}
 use Rattle.fs_field.specs.declared.vote.Vote.{Vote}
 use Rattle.fs_field.specs.declared.vote.Vote.TheVariants.{Yes, Ended, Moved, PathsOut}
 use Rattle.fs_map.specs.Map.{server_of}
 use Rattle.fs_msg.specs.declared.decide.Decide.{Decide as DecideMsg}
 use Rattle.fs_msg.specs.declared.done.Done.{Done as DoneMsg}
+use Rattle.fs_msg.specs.declared.msg.Msg.{Msg}
 use Rattle.fs_msg.specs.declared.peer_msg.PeerMsg.{PeerMsg}
 use Rattle.fs_msg.specs.declared.peer_msg.PeerMsg.TheVariants as peer
 use Rattle.fs_msg.specs.declared.prepare.Prepare.{Prepare as PrepareMsg}
 use Rattle.fs_msg.specs.declared.server_note.ServerNote.TheVariants as note
+use Rattle.fs_msg.specs.declared.server_note.ServerNote.{ServerNote}
 use Rattle.fs_msg.specs.declared.voted.Voted.{Voted as VotedMsg}
 use Rattle.fs_record.specs.declared.led_end.LedEnd.{LedEnd}
 use Rattle.fs_record.specs.declared.led_end.LedEnd.TheVariants as led
-use Rattle.fs_server.specs.Concludes.{concludes, end_note, waits}
+use Rattle.fs_server.specs.Concludes.{concludes, end_note, waits, goes_on}
 use Rattle.fs_server.specs.Counts.{after_own_vote, asked_at, comes_home, counts, counts_own, done_of, done_step, done_with, seeks, sent_on, vote_of, vote_step, voted, with_vote}
 use Rattle.fs_server.specs.Follows.{applies, decide_step, prepare_step, vote_here, votes}
-use Rattle.fs_server.specs.Moves.{fits_here, parcel_at}
+use Rattle.fs_server.specs.Moves.{peer_step}
 use Rattle.fs_server.specs.Server.{Stepped, is_mine, strange}
 use Rattle.fs_server.specs.declared.state.Server.{Server}
 use Rattle.fs_txn.specs.Leading.{awaited_stage, awaits_done, ending_of, leading_of, stage_by, stage_in, without_done}
@@ -158,14 +161,6 @@ pub record IsAwaited (s : Server) (m : VotedMsg) : Type 0 where
 abbrev pub IsKnown : Stepped → Type 0
 IsKnown x = x.out.note ≢ note.Strange
 
--- what a server makes of a word, or of a parcel
-abbrev pub word_step : ℕ → PeerMsg → Server → Stepped
-word_step from (peer.Parcel p) s = parcel_at (fits_here p s) p s
-word_step from (peer.Prepare m) s = prepare_step from m s
-word_step from (peer.Vote m) s = vote_step m s
-word_step from (peer.Decide m) s = decide_step from m s
-word_step from (peer.Done m) s = done_step m s
-
 concluded_known : (l : Leading) (sent : List _) (s : Server) → IsKnown (concludes l sent s)
 concluded_known l sent s = of _
   where
@@ -174,13 +169,15 @@ concluded_known l sent s = of _
     of (led.Ended n u w) e = absurd (cc)
     of (led.Again w) e = absurd (cc)
 
-counted_known : (number : ℕ) (v : Vote) (l : Leading) (s : Server) → IsKnown (counts number v l s)
-counted_known number v l s =
-    elim (is_full (with_vote number v l).leader.votes) as
-    (λ b. IsKnown (cond b (concludes (with_vote number v l) [] s) (waits (note.Waits l.leader.txn) (with_vote number v l) [] s))) [
-      | true ↦ concluded_known (with_vote number v l) [] s
-      | false ↦ λ e. absurd (cc)
+pub goes_on_known : (n : ServerNote) (l : Leading) (sent : List (Peer × Msg)) (s : Server) → n ≢ note.Strange → IsKnown (goes_on n l sent s)
+goes_on_known n l sent s known =
+    elim (is_full l.leader.votes) as (λ b. IsKnown (cond b (concludes l sent s) (waits n l sent s))) [
+      | true ↦ concluded_known l sent s
+      | false ↦ known
     ]
+
+counted_known : (number : ℕ) (v : Vote) (l : Leading) (s : Server) → IsKnown (counts number v l s)
+counted_known number v l s = goes_on_known (note.Waits l.leader.txn) (with_vote number v l) [] s (λ e. absurd (cc))
 
 home_known : (number : ℕ) (p : Part) (l : Leading) (s : Server) → IsKnown (comes_home number p l s)
 home_known number p l s =
@@ -345,7 +342,7 @@ module _ (k from : ℕ) (c : Cluster) (s : Server) (at : slice_get c.servers k �
       ∙ ap (λ b. cond b (done_with (without_done m.number q.ending) (without_done m.number q.ending).awaits s) (strange s))
       (is_awaited m.number from q.ending.awaits q.stage)
 
-  pub words_known : (m : PeerMsg) → Comes k from c m → (word_in m ≡ None → ⊥) → IsKnown (word_step from m s)
+  pub words_known : (m : PeerMsg) → Comes k from c m → (word_in m ≡ None → ⊥) → IsKnown (peer_step from m s)
   words_known (peer.Parcel p) comes word = absurd (word refl)
   words_known (peer.Prepare m) comes word = subst IsKnown (sym (prepare_awaited m comes)) (λ e. absurd (cc))
   words_known (peer.Vote m) comes word = let q = vote_awaited m comes in
@@ -355,5 +352,5 @@ module _ (k from : ℕ) (c : Cluster) (s : Server) (at : slice_get c.servers k �
       subst IsKnown (sym (done_is m q)) (done_known (without_done m.number q.ending) _ s)
 
 pub words_awaited : (k from : ℕ) (c : Cluster) (s : Server) → slice_get c.servers k ≡ Some s → (m : PeerMsg) → Comes k from c m → LedHolds c
-    → (word_in m ≡ None → ⊥) → (word_step from m s).out.note ≢ note.Strange
+    → (word_in m ≡ None → ⊥) → (peer_step from m s).out.note ≢ note.Strange
 words_awaited k from c s at m comes held word = words_known k from c s at held m comes word

@@ -38,9 +38,8 @@ use Rattle.fs_serial.specs.Cluster.ClientEvent.{Does, Turns, Hears}
 use Rattle.fs_serial.specs.Decided.{WorldStands}
 use Rattle.fs_serial.specs.Exchange.{OneExchange, asked_server, due, is_recall}
 use Rattle.fs_serial.specs.Leading.{IsLedBy, LeavesLedClient, LedHolds}
-use Rattle.fs_serial.specs.Meanwhile.{ClusterStands, held_meanwhile, world_meanwhile}
 use Rattle.fs_serial.specs.Owed.{ends_in, ends_with, owed_to, question_of, taken_leads}
-use Rattle.fs_serial.specs.Seen.{IsAddressed, counts_of, with_all}
+use Rattle.fs_serial.specs.Seen.{ClusterHolds, IsAddressed, counts_of, with_all, world_of}
 use Rattle.fs_serial.specs.Words.{decided_in, ending_at}
 use Rattle.fs_serial.specs.World.{Ends, World, WorldHolds, is_called, message_in, pushed, told_by, with_ends, with_told}
 use Rattle.fs_serial.specs.World as world
@@ -48,6 +47,7 @@ use Rattle.fs_serial.proofs.ClientMessages.ActMoves.{with_items}
 use Rattle.fs_serial.proofs.ClientMessages.Reordered.{reordered, with_first}
 use Rattle.fs_serial.proofs.DecidedEffects.DecidedKept.{client_fits, plan_fits}
 use Rattle.fs_serial.proofs.DecidedEffects.Deciding.{deciding_in}
+use Rattle.fs_serial.proofs.DecidedEffects.HeldSeen.{held_seen}
 use Rattle.fs_serial.proofs.DecidedEffects.OwnApart.{one_each}
 use Rattle.fs_serial.proofs.Lists.EachAt.{nothing_of}
 use Rattle.fs_serial.proofs.Lists.Journals.{session_itself}
@@ -161,17 +161,17 @@ module _ (c : Cluster) (by : Session) where
             | false ↦ λ e. refl
           ] refl
 
-    module _ (skew greatest : ℕ) (h : ClusterStands skew greatest c) (few : (m : ℕ × Answer) → In m rest → In m l.down)
+    module _ (skew greatest : ℕ) (h : ClusterHolds skew greatest c) (few : (m : ℕ × Answer) → In m rest → In m l.down)
         (posted : IsPosted p) (waits : LeavesLedClient by c after.lines) (led : LedHolds after)
         (seen : (s : Server) → In s c.servers
-        → WorldStands greatest (world.after_plan by (its_owed ++ messages rest) p (world_meanwhile s c))) where
+        → WorldStands greatest (world.after_plan by (its_owed ++ messages rest) p (world_of s c))) where
       one : OneExchange new.client new.client.exchange new.up new.down
       one =
           let q = some_server c h.places in
           subst (λ (e : Ends). OneExchange e.client e.client.exchange e.up e.down) (ends_here by new (ends_in c))
           (((seen q.0 q.1).0).exchanges by).one
 
-      seen_then : (s : Server) → In s c.servers → WorldStands greatest (world_meanwhile s after)
+      seen_then : (s : Server) → In s c.servers → WorldStands greatest (world_of s after)
       seen_then s i = subst (λ (es : Session → Ends). WorldStands greatest (record {
         server = with_all s c;
         counts = counts_of c.servers;
@@ -181,7 +181,7 @@ module _ (c : Cluster) (by : Session) where
         ends = es;
       })) (sym (fun_ext (ends_planned h.led waits one))) (seen s i)
 
-      pub plan_stands : ClusterStands skew greatest after
+      pub plan_stands : ClusterHolds skew greatest after
       plan_stands =
           let own : IsAddressed then =
           addressed_among p l rest (taken_for (committed p.ready l.client).led) its_owed few posted
@@ -195,7 +195,7 @@ module _ (c : Cluster) (by : Session) where
             led = led;
           }
 
-module _ (skew greatest : ℕ) (c : Cluster) (by : Session) (h : ClusterStands skew greatest c) where
+module _ (skew greatest : ℕ) (c : Cluster) (by : Session) (h : ClusterHolds skew greatest c) where
   abbrev lines : Lines
   lines = c.lines by
 
@@ -205,32 +205,32 @@ module _ (skew greatest : ℕ) (c : Cluster) (by : Session) (h : ClusterStands s
   few_one : length (ends_in c by).up + length (due (ends_in c by).down) ≤ 1
   few_one = let q = some_server c h.places in one_each skew greatest c h q.0 q.1 by
 
-  pub turn_stands : (now : ℕ) → ClusterStands skew greatest (after_client by now Turns c)
+  pub turn_stands : (now : ℕ) → ClusterHolds skew greatest (after_client by now Turns c)
   turn_stands now =
       plan_stands c by lines.down (turn_plan lines.client now) skew greatest h (λ m i. i) (turn_posted (begun now lines.client))
       (client_waits by c few_one now Turns tt) (waiting_keeps_led by now Turns c h.led few_one tt)
       (λ s i. (
-        turn_keeps greatest now (world_meanwhile s c) by (h.parts s i).0,
-        client_fits now (world_meanwhile s c) by world.Turns tt tt (h.parts s i).1,
+        turn_keeps greatest now (world_of s c) by (h.parts s i).0,
+        client_fits now (world_of s c) by world.Turns tt tt (h.parts s i).1,
       ))
 
   pub does_stands : (now : ℕ) (o : Op) → is_called o ≡ true → greatest ≤ now + skew
-      → ClusterStands skew greatest (after_client by now (Does o) c)
+      → ClusterHolds skew greatest (after_client by now (Does o) c)
   does_stands now o called within =
       plan_stands c by lines.down (act_plan lines.client now o) skew greatest h (λ m i. i)
       (act_posted lines.client.over o (begun now lines.client)) (client_waits by c few_one now (Does o) called)
       (waiting_keeps_led by now (Does o) c h.led few_one called)
       (λ s i. (
-        client_keeps greatest now (world_meanwhile s c) by (h.parts s i).0 (world.Does o) called
+        client_keeps greatest now (world_of s c) by (h.parts s i).0 (world.Does o) called
             (subst (λ n. greatest ≤ now + n) (sym (h.skewed s i)) within),
-        client_fits now (world_meanwhile s c) by (world.Does o) called tt (h.parts s i).1,
+        client_fits now (world_of s c) by (world.Does o) called tt (h.parts s i).1,
       ))
 
   -- with any reading the root's kind joins the journal in place of what is read
   abbrev pub plainly : ℕ → Op → Plan Act
-  plainly now o = with_items (λ i. plain_read (nodes_of (held_meanwhile c)) by lines.client.next) (act_plan lines.client now o)
+  plainly now o = with_items (λ i. plain_read (nodes_of (held_seen c)) by lines.client.next) (act_plan lines.client now o)
 
-  pub plain_stands : (now : ℕ) (o : Op) → is_called o ≡ true → ClusterStands skew greatest (after_plan by lines.down (plainly now o) c)
+  pub plain_stands : (now : ℕ) (o : Op) → is_called o ≡ true → ClusterHolds skew greatest (after_plan by lines.down (plainly now o) c)
   plain_stands now o called =
       let q : LedHolds (after_client by now (Does o) c) = waiting_keeps_led by now (Does o) c h.led few_one called in
       plan_stands c by lines.down (plainly now o) skew greatest h (λ m i. i) (act_posted lines.client.over o (begun now lines.client))
@@ -247,8 +247,8 @@ module _ (skew greatest : ℕ) (c : Cluster) (by : Session) (h : ClusterStands s
         told = q.told;
       })
       (λ s i. (
-        acts_plainly greatest now (world_meanwhile s c) by (h.parts s i).0 o called,
-        plan_fits by (ends_in c by).down (plainly now o) (world_meanwhile s c) (λ d j same none. none) (h.parts s i).1,
+        acts_plainly greatest now (world_of s c) by (h.parts s i).0 o called,
+        plan_fits by (ends_in c by).down (plainly now o) (world_of s c) (λ d j same none. none) (h.parts s i).1,
       ))
 
   -- ## An answer, which may have overtaken those of other servers
@@ -303,7 +303,7 @@ module _ (skew greatest : ℕ) (c : Cluster) (by : Session) (h : ClusterStands s
 
     module _ (now : ℕ) (s : Server) (i : In s c.servers) where
       abbrev w : World
-      w = world_meanwhile s c
+      w = world_of s c
 
       abbrev its_ends : Ends
       its_ends = record { client = lines.client; up = (ends_in c by).up; down = a ∷ (front ++ back) }
@@ -381,7 +381,7 @@ module _ (skew greatest : ℕ) (c : Cluster) (by : Session) (h : ClusterStands s
     pub answer_known : (now : ℕ) → (answer_plan lines.client now from a).out.note ≢ note.Strange
     answer_known now = let q = some_server c h.places in not_strange now q.0 q.1
 
-    pub hears_stands : (now : ℕ) → ClusterStands skew greatest (after_client by now (Hears from a) c)
+    pub hears_stands : (now : ℕ) → ClusterHolds skew greatest (after_client by now (Hears from a) c)
     hears_stands now =
         plan_stands c by rest (answer_plan lines.client now from a) skew greatest h
         (λ m i. In_without (is_with from) lines.down m i) (hear_posted from a (begun now lines.client))
@@ -389,7 +389,7 @@ module _ (skew greatest : ℕ) (c : Cluster) (by : Session) (h : ClusterStands s
         (λ s i. seen_hears now s i)
 
   pub client_stands : (now : ℕ) (e : ClientEvent) → CanCome by e c → greatest ≤ now + skew
-      → ClusterStands skew greatest (after_client by now e c)
+      → ClusterHolds skew greatest (after_client by now e c)
   client_stands now (Does o) can within = does_stands now o can within
   client_stands now Turns can within = turn_stands now
   client_stands now (Hears from a) can within = hears_stands from a can now

@@ -25,9 +25,9 @@ use Rattle.fs_txn.specs.Stages.Word.{Decide}
 use Rattle.fs_txn.specs.declared.decision.Decision.{Decision}
 use Rattle.fs_txn.specs.declared.decision.Decision.TheVariants.{Abort}
 use Rattle.fs_txn.specs.declared.leading.Leading.{Leading}
-use Rattle.fs_serial.specs.Cluster.{Cluster, InFlight, IsThere, after_step, without_arrived}
+use Rattle.fs_serial.specs.Cluster.{Cluster, InFlight, IsThere, after_step, with_items, without_arrived}
 use Rattle.fs_serial.specs.Cluster as cluster
-use Rattle.fs_serial.specs.Conclusions.{after_concluded, with_items}
+use Rattle.fs_serial.specs.Conclusions.{after_concluded}
 use Rattle.fs_serial.specs.Leading.{LedHolds}
 use Rattle.fs_serial.specs.Places.{PlacesHold}
 use Rattle.fs_serial.specs.Words.{key_of, telling_of, told_with}

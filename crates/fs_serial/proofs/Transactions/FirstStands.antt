@@ -18,22 +18,18 @@ use Rattle.fs_txn.specs.declared.ready.Ready.{Ready}
 use Rattle.fs_serial.specs.Cluster.{Cluster, first_cluster}
 use Rattle.fs_serial.specs.Decided.{WorldStands}
 use Rattle.fs_serial.specs.Leading.{LedHolds}
-use Rattle.fs_serial.specs.Meanwhile.{ClusterStands, world_meanwhile}
-use Rattle.fs_serial.specs.Owed.{ends_in, owed_at, taken_at}
-use Rattle.fs_serial.specs.Seen.{ClusterHolds, ends_of, world_of}
+use Rattle.fs_serial.specs.Owed.{ends_in, ends_of, owed_at, taken_at}
+use Rattle.fs_serial.specs.Seen.{ClusterHolds, world_of}
 use Rattle.fs_serial.specs.Words.{ended_in, ending_at, kept_at, leading_at, led_in, prepared_in, ready_at, said_at, stage_of_key, wanted_of}
 use Rattle.fs_serial.specs.World.{Ends, WorldHolds}
 use Rattle.fs_serial.proofs.DecidedEffects.Owing.{none_fits}
 use Rattle.fs_serial.proofs.Lists.EachAt.{none_each}
-use Rattle.fs_serial.proofs.WholeRuns.FirstCluster.{each, first_all}
+use Rattle.fs_serial.proofs.WholeRuns.FirstCluster.{bare, bare_holds, each, first_places}
 use Rattle.fs_serial.proofs.WholeRuns.Views.{alike_holds}
 
 module _ (n skew term greatest : ℕ) where
   abbrev c : Cluster
   c = first_cluster (suc n) skew term
-
-  h : ClusterHolds skew greatest c
-  h = first_all (suc n) skew term greatest (omega arith)
 
   -- ## No server has anything of transactions
 
@@ -98,10 +94,10 @@ module _ (n skew term greatest : ℕ) where
       (each n skew term greatest (λ s. taken_at x (c.lines x).client.led s ≡ []) (λ k. refl)))
       (ap (λ (os : List Answer). os ++ []) (none_each (owed_at x) c.servers (each n skew term greatest (λ s. owed_at x s ≡ []) (λ k. refl))))
 
-  seen : (s : Server) → In s c.servers → WorldStands greatest (world_meanwhile s c)
+  seen : (s : Server) → In s c.servers → WorldStands greatest (world_of s c)
   seen s i =
-      let holds : WorldHolds greatest (world_meanwhile s c) =
-      alike_holds greatest (world_of s c) (world_meanwhile s c) (record {
+      let holds : WorldHolds greatest (world_of s c) =
+      alike_holds greatest (bare n skew term greatest s) (world_of s c) (record {
         rows = refl;
         records = refl;
         skew = refl;
@@ -110,12 +106,18 @@ module _ (n skew term greatest : ℕ) where
         journal = refl;
         replied = refl;
         ends = ends_same;
-      }) (h.parts s i).clock (h.parts s i) in
-      (holds, none_fits greatest (world_meanwhile s c) refl holds)
+      }) (bare_holds n skew term greatest s i).clock (bare_holds n skew term greatest s i) in
+      (holds, none_fits greatest (world_of s c) refl holds)
 
-  first_some : ClusterStands skew greatest c
-  first_some = record { parts = seen; skewed = h.skewed; addressed = h.addressed; places = h.places; led = first_led }
+  first_some : ClusterHolds skew greatest c
+  first_some = record {
+    parts = seen;
+    skewed = each n skew term greatest (λ s. s.skew ≡ skew) (λ k. refl);
+    addressed = λ x. record { up = λ m i. absurd i; down = λ m i d. absurd i };
+    places = first_places n skew term greatest;
+    led = first_led;
+  }
 
-pub first_stands : (servers skew term greatest : ℕ) → 1 ≤ servers → ClusterStands skew greatest (first_cluster servers skew term)
+pub first_stands : (servers skew term greatest : ℕ) → 1 ≤ servers → ClusterHolds skew greatest (first_cluster servers skew term)
 first_stands zero skew term greatest some = absurd (omega arith)
 first_stands (suc n) skew term greatest some = first_some n skew term greatest

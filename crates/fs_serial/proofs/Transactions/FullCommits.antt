@@ -16,17 +16,17 @@ use Rattle.fs_serial.specs.Cluster.{Cluster}
 use Rattle.fs_serial.specs.Commits.{IsCommitted}
 use Rattle.fs_serial.specs.Led.{LedStands}
 use Rattle.fs_serial.specs.Leading.{IsLeading, IsLedBy, StaysIn}
-use Rattle.fs_serial.specs.Meanwhile.{ClusterStands, world_meanwhile}
 use Rattle.fs_serial.specs.Owed.{ends_in}
 use Rattle.fs_serial.specs.Pending.{AllStand}
 use Rattle.fs_serial.specs.Refusals.{rows_in}
 use Rattle.fs_serial.specs.Sight.{Sight}
 use Rattle.fs_serial.specs.World.{settled_at, sight_in}
+use Rattle.fs_serial.specs.Seen.{ClusterHolds, world_of}
 use Rattle.fs_serial.proofs.LedOperations.Committing.{StaysApart, committed_led, kind_there}
 use Rattle.fs_serial.proofs.Transactions.OwnersOfLocks.{in_range}
 use Rattle.fs_serial.proofs.Transactions.YesesStand.{full_stands, session_stands, voted_all}
 
-module _ (k skew greatest : ℕ) (c : Cluster) (s : Server) (at : slice_get c.servers k ≡ Some s) (h : ClusterStands skew greatest c)
+module _ (k skew greatest : ℕ) (c : Cluster) (s : Server) (at : slice_get c.servers k ≡ Some s) (h : ClusterHolds skew greatest c)
     (l : Leading) (there : In l s.leading) (none : first_end l.leader.votes ≡ None) where
   abbrev by : Session
   by = l.leader.session
@@ -38,7 +38,7 @@ module _ (k skew greatest : ℕ) (c : Cluster) (s : Server) (at : slice_get c.se
   d = leads.led
 
   abbrev now : Sight
-  now = sight_in (world_meanwhile s c)
+  now = sight_in (world_of s c)
 
   client : IsLedBy c.lines by k d
   client = subst (λ n. IsLedBy c.lines by n d) (h.places.numbered k s at) leads.client

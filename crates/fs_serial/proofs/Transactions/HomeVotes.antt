@@ -44,10 +44,9 @@ use Rattle.fs_serial.specs.Cluster.{Cluster, IsThere, parcels_of}
 use Rattle.fs_serial.specs.Joined.{records_of_all}
 use Rattle.fs_serial.specs.Led.{LedStands}
 use Rattle.fs_serial.specs.Leading.{IsPlain, StaysIn}
-use Rattle.fs_serial.specs.Meanwhile.{ClusterStands, world_meanwhile}
 use Rattle.fs_serial.specs.Owed.{ends_in}
 use Rattle.fs_serial.specs.Pending.{Stands}
-use Rattle.fs_serial.specs.Seen.{with_all}
+use Rattle.fs_serial.specs.Seen.{ClusterHolds, with_all, world_of}
 use Rattle.fs_serial.specs.Sight.{Sight}
 use Rattle.fs_serial.specs.Words.{decided_in}
 use Rattle.fs_serial.specs.World.{settled_at, sight_in}
@@ -94,12 +93,12 @@ home_vote txn number by (q ∷ ps) r p first none mine =
 
 -- ## Directories that live
 
-module _ (k skew greatest : ℕ) (c : Cluster) (s : Server) (at : slice_get c.servers k ≡ Some s) (h : ClusterStands skew greatest c) where
+module _ (k skew greatest : ℕ) (c : Cluster) (s : Server) (at : slice_get c.servers k ≡ Some s) (h : ClusterHolds skew greatest c) where
   here : In s c.servers
   here = In-got c.servers k s at
 
   abbrev now : Sight
-  now = sight_in (world_meanwhile s c)
+  now = sight_in (world_of s c)
 
   -- what lives in what all hold, and is managed here, has its record here
   pub lives_here : (file : List ℕ) → is_mine s file ≡ true → kind_of (node_of (get now.records file)) ≡ Some Dir
@@ -190,14 +189,14 @@ module _ (k skew greatest : ℕ) (c : Cluster) (s : Server) (at : slice_get c.se
 
 -- ## Its votes, as it begins
 
-pub home_votes : (k skew greatest : ℕ) (c : Cluster) (s : Server) → slice_get c.servers k ≡ Some s → ClusterStands skew greatest c
+pub home_votes : (k skew greatest : ℕ) (c : Cluster) (s : Server) → slice_get c.servers k ≡ Some s → ClusterHolds skew greatest c
     → (by : Session) (m : ToLead) (d : TheLed) (p : Part) → IsThere k (FromClient by (Lead m)) c → (c.lines by).client.led ≡ Some d
     → slice_get (parts_in m) 0 ≡ Some p → lead_refusal s m ≡ None
     → (d.kind ≡ File) ⊎ (StaysIn m.op ⊎ (vote_here s by p ≡ Yes → ⊥))
 home_votes k skew greatest c s at h by m d p there led first accepted =
-    votes_over_paths k skew greatest c s at h by m d p there led first (none_refuses s m accepted).1.0
+    votes_over_paths k skew greatest c s at h by m d p there led first (none_refuses s m accepted).1
 
-pub begun_plain : (k skew greatest : ℕ) (c : Cluster) (s : Server) → slice_get c.servers k ≡ Some s → ClusterStands skew greatest c
+pub begun_plain : (k skew greatest : ℕ) (c : Cluster) (s : Server) → slice_get c.servers k ≡ Some s → ClusterHolds skew greatest c
     → (by : Session) (m : ToLead) (d : TheLed) → IsThere k (FromClient by (Lead m)) c → (c.lines by).client.led ≡ Some d
     → lead_refusal s m ≡ None → IsPlain d (leader_with (txn_of s) by m (round_of by m s).votes)
 begun_plain k skew greatest c s at h by m d there led accepted =

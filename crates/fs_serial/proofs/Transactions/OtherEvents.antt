@@ -39,12 +39,11 @@ use Rattle.fs_serial.specs.Decided.{WorldStands}
 use Rattle.fs_serial.specs.Exchange.{asked_server}
 use Rattle.fs_serial.specs.Fresh.{IsMade}
 use Rattle.fs_serial.specs.Leading.{LeavesLed}
-use Rattle.fs_serial.specs.Meanwhile.{ClusterStands, world_meanwhile}
 use Rattle.fs_serial.specs.Owed.{ends_in, taken_leads}
 use Rattle.fs_serial.specs.Places.{PlacesHold}
 use Rattle.fs_serial.specs.Refusals.{rows_in}
-use Rattle.fs_serial.specs.Runs.{held_by}
-use Rattle.fs_serial.specs.Seen.{counts_of, given_at, reaps_at, with_all}
+use Rattle.fs_serial.specs.Runs.{records_in}
+use Rattle.fs_serial.specs.Seen.{ClusterHolds, counts_of, given_at, reaps_at, with_all, world_of}
 use Rattle.fs_serial.specs.Sight.{count_with}
 use Rattle.fs_serial.specs.Words.{IsNoneOfLed, decided_in, word_in}
 use Rattle.fs_serial.specs.World.{Ends, World}
@@ -52,8 +51,8 @@ use Rattle.fs_serial.specs.World as world
 use Rattle.fs_serial.proofs.ClientMessages.Due.{HasAsked, event_due}
 use Rattle.fs_serial.proofs.DecidedEffects.GrantsPast.{all_decided, going_of, selves_alike}
 use Rattle.fs_serial.proofs.DecidedEffects.Underway.{either_file, kind_held}
-use Rattle.fs_serial.proofs.LedOperations.LeadEvents.{replies_still}
-use Rattle.fs_serial.proofs.LedOperations.Unled.{IsOther}
+use Rattle.fs_serial.proofs.LedOperations.NoReplies.{replies_still}
+use Rattle.fs_serial.specs.World.{IsOther}
 use Rattle.fs_serial.proofs.Lists.Traffic.{messages}
 use Rattle.fs_serial.proofs.Moves.Arriving.{arriving_places, arriving_same, parcel_stands}
 use Rattle.fs_serial.proofs.Moves.Leaving.{LivesMade, move_same, moved_places}
@@ -93,9 +92,9 @@ move_quiet (Some why) prefix to s =
 install_quiet : (p : Parcel) (s : Server) → IsQuietStep s (only_noted (note.Installs p.prefix) (installed p s))
 install_quiet p s = record { me = refl; skew = refl; last = refl; given = refl; reaps = refl; admitted = refl; sent = λ ends y. refl }
 
-module _ (skew greatest k : ℕ) (c : Cluster) (s : Server) (at : slice_get c.servers k ≡ Some s) (h : ClusterStands skew greatest c) where
+module _ (skew greatest k : ℕ) (c : Cluster) (s : Server) (at : slice_get c.servers k ≡ Some s) (h : ClusterHolds skew greatest c) where
   abbrev w : World
-  w = world_meanwhile s c
+  w = world_of s c
 
   now : WorldStands greatest w
   now = view skew greatest k c s at h
@@ -114,9 +113,9 @@ module _ (skew greatest k : ℕ) (c : Cluster) (s : Server) (at : slice_get c.se
   has_asked (event.Recall field) there = tt
   has_asked (event.Move prefix to) there = tt
 
-  answers_due : (e : ServerEvent) → IsThere k e c
+  answers_due : (e : ServerEvent) → IsNoneOfLed e → IsThere k e c
       → AreDue k (event_step e s).out.send (λ z. asked_server (without_question k e c.lines z).client.exchange)
-  answers_due e there = event_due k (λ z. asked_server (without_question k e c.lines z).client.exchange) e s (has_asked e there)
+  answers_due e none there = event_due k (λ z. asked_server (without_question k e c.lines z).client.exchange) e s none (has_asked e there)
 
   coming : (by : Session) (m : ClientMsg) → IsThere k (event.FromClient by m) c → In m (ends_in c by).up
   coming by m there = In-front m (messages (c.lines by).up) (taken_leads by (c.lines by).client.led c.servers)
@@ -140,13 +139,13 @@ module _ (skew greatest k : ℕ) (c : Cluster) (s : Server) (at : slice_get c.se
   none_of_led by (Ship entries) other = tt
 
   pub asked_event : (by : Session) (m : ClientMsg) → IsOther (event.FromClient by m) → IsThere k (event.FromClient by m) c
-      → ClusterStands skew greatest (after_step k (event.FromClient by m) (event_step (event.FromClient by m) s) c)
+      → ClusterHolds skew greatest (after_step k (event.FromClient by m) (event_step (event.FromClient by m) s) c)
   asked_event by m other there =
       let e : ServerEvent = event.FromClient by m in
       let big : Stepped = event_step e (with_all s c) in
       stands_after skew greatest k c s at h e there (event_step e s) big
       (begun_in greatest k c s e at h.places (decided_in c) (ends_in c) now.0 now.1 (coming by m there) other (λ z. absurd (cc)))
-      (event_leaves k s c e there (none_of_led by m other) (unlocked by m there)) (answers_due e there)
+      (event_leaves k s c e there (none_of_led by m other) (unlocked by m there)) (answers_due e (none_of_led by m other) there)
       (subst (λ replied. WorldStands greatest (record {
         server = big.server;
         counts = counts_of c.servers;
@@ -154,28 +153,28 @@ module _ (skew greatest k : ℕ) (c : Cluster) (s : Server) (at : slice_get c.se
         journal = c.journal ++ big.out.admitted;
         replied = replied;
         ends = world.with_sent big.out.send (world.without_taken e (ends_in c));
-      })) (sym (replies_still e other big.out.admitted c.replied)) (begun_keeps greatest w e now.1 (coming by m there) other now.0))
+      })) (sym (replies_still by m other big.out.admitted c.replied)) (begun_keeps greatest w e now.1 (coming by m there) other now.0))
 
   -- ## Turns, and leases that are asked back
 
-  pub turn_event : ClusterStands skew greatest (after_step k event.Turn (event_step event.Turn s) c)
+  pub turn_event : ClusterHolds skew greatest (after_step k event.Turn (event_step event.Turn s) c)
   turn_event = stands_after skew greatest k c s at h event.Turn tt (turn_step s) (turn_over (lapsed_in s) (with_all s c))
-      (turn_same k c s at h.places) (event_leaves k s c event.Turn tt tt tt) (answers_due event.Turn tt)
+      (turn_same k c s at h.places) (event_leaves k s c event.Turn tt tt tt) (answers_due event.Turn tt tt)
       (turn_some_keeps greatest w (lapsed_in s) now.1 (all_let_go c k s at h.places) now.0)
 
-  pub recall_event : (field : Field) → ClusterStands skew greatest (after_step k (event.Recall field) (event_step (event.Recall field) s) c)
+  pub recall_event : (field : Field) → ClusterHolds skew greatest (after_step k (event.Recall field) (event_step (event.Recall field) s) c)
   recall_event field =
       let e : ServerEvent = event.Recall field in
       stands_after skew greatest k c s at h e tt (event_step e s) (event_step e (with_all s c))
       (begun_in greatest k c s e at h.places (decided_in c) (ends_in c) now.0 now.1 tt tt (λ z. absurd (cc)))
-      (event_leaves k s c e tt tt tt) (answers_due e tt) (begun_keeps greatest w e now.1 tt tt now.0)
+      (event_leaves k s c e tt tt tt) (answers_due e tt tt) (begun_keeps greatest w e now.1 tt tt now.0)
 
   -- ## Where all rows and records stay
 
   module _ (e : ServerEvent) (there : IsThere k e c) (x : Stepped) (q : IsQuietStep s x) (leaves : LeavesLed k e s x c)
       (none : replies_after e x.out.admitted c.replied ≡ c.replied)
       (untaken : (y : Session) → world.without_taken e (ends_in c) y ≡ ends_in c y)
-      (rows : rows_in (after_step k e x c) ≡ rows_in c) (records : held_by (after_step k e x c) ≡ held_by c)
+      (rows : rows_in (after_step k e x c) ≡ rows_in c) (records : records_in (after_step k e x c) ≡ records_in c)
       (places : PlacesHold (after_step k e x c))
       (due : AreDue k x.out.send (λ z. asked_server (without_question k e c.lines z).client.exchange)) where
     abbrev after : Cluster
@@ -187,11 +186,11 @@ module _ (skew greatest k : ℕ) (c : Cluster) (s : Server) (at : slice_get c.se
         let was : s.last ≤ greatest = now.0.clock in
         omega (arith, last, was)
 
-    moved_stands : ClusterStands skew greatest after
+    moved_stands : ClusterHolds skew greatest after
     moved_stands =
         let decided : decided_in after ≡ decided_in c = decided_after k e s x c at leaves in
         all_stand skew greatest k c s at h after x.server refl q.skew clock places (step_keeps_led k e s x c at h.led leaves)
-        (stands_alike greatest w (world_meanwhile x.server after) (record {
+        (stands_alike greatest w (world_of x.server after) (record {
           rows = rows;
           records = ap₂ (λ (ds : List Decided) (m : RecordMap). held_with (effects_in ds) m) decided records;
           skew = q.skew;
@@ -238,21 +237,21 @@ module _ (skew greatest k : ℕ) (c : Cluster) (s : Server) (at : slice_get c.se
   abbrev es : List Effect
   es = effects_in (decided_in c)
 
-  lives_made : LivesMade (held_by c) c.journal
+  lives_made : LivesMade (records_in c) c.journal
   lives_made id kind e = elim (removed_or id es) as (λ _. IsMade c.journal id) [
     | inl i ↦ (going_of (decided_in c) (with_all s c) c.journal now.1.all id i).1.1.file.0
     | inr stays ↦ ap (λ (o : Option Kind). is_some o) (now.0.all.kept.made id kind
-        (kind_held (held_by c) es id (all_decided (decided_in c) (with_all s c) c.journal now.1.all) stays ∙ e))
+        (kind_held (records_in c) es id (all_decided (decided_in c) (with_all s c) c.journal now.1.all) stays ∙ e))
   ]
 
   pub move_event : (prefix : List ℕ) (to : ℕ) → IsThere k (event.Move prefix to) c
-      → ClusterStands skew greatest (after_step k (event.Move prefix to) (event_step (event.Move prefix to) s) c)
+      → ClusterHolds skew greatest (after_step k (event.Move prefix to) (event_step (event.Move prefix to) s) c)
   move_event prefix to there =
       let e : ServerEvent = event.Move prefix to in
       let same = move_same k c s prefix to at h.places in
       moved_stands e there (event_step e s) (move_quiet (move_refusal s.records s.rows s.map s.me prefix to None) prefix to s)
       (event_leaves k s c e there tt tt) refl (λ y. refl) same.0 same.1
-      (moved_places k c s prefix to at h.places now.1.all.records lives_made there) (answers_due e there)
+      (moved_places k c s prefix to at h.places now.1.all.records lives_made there) (answers_due e tt there)
 
   -- ## A parcel that comes
 
@@ -262,12 +261,12 @@ module _ (skew greatest k : ℕ) (c : Cluster) (s : Server) (at : slice_get c.se
       (found (is_between from k) c.in_flight (record { from = from; to = k; message = peer.Parcel p }) there).0 refl)).unlocked
 
   pub parcel_event : (from : ℕ) (p : Parcel) → IsThere k (event.FromPeer from (peer.Parcel p)) c
-      → ClusterStands skew greatest
+      → ClusterHolds skew greatest
       (after_step k (event.FromPeer from (peer.Parcel p)) (event_step (event.FromPeer from (peer.Parcel p)) s) c)
   parcel_event from p there =
       let e : ServerEvent = event.FromPeer from (peer.Parcel p) in
       let x : Stepped = only_noted (note.Installs p.prefix) (installed p s) in
-      let stand : RowsStand (count_with s.me s.given (counts_of c.servers).given) (held_by c) (rows_in c) = record {
+      let stand : RowsStand (count_with s.me s.given (counts_of c.servers).given) (records_in c) (rows_in c) = record {
         apart = now.0.all.servers.apart;
         promises = subst (λ (f : Selves). KeptPromises f (rows_in c))
             (fun_ext (selves_alike (decided_in c) (with_all s c) c.journal now.1.all)) now.0.all.servers.promises;
@@ -277,17 +276,17 @@ module _ (skew greatest k : ℕ) (c : Cluster) (s : Server) (at : slice_get c.se
       let fits : fits_here p s ≡ true = parcel_stands k from c s p at h.places there (counts_of c.servers) stand in
       let is : x ≡ event_step e s = ap (λ b. parcel_at b p s) (sym fits) in
       let same = arriving_same k from c s p at h.places there in
-      subst (λ (y : Stepped). ClusterStands skew greatest (after_step k e y c)) is
+      subst (λ (y : Stepped). ClusterHolds skew greatest (after_step k e y c)) is
       (moved_stands e there x (install_quiet p s)
       (subst (λ (y : Stepped). LeavesLed k e s y c) (sym is) (event_leaves k s c e there refl (parcel_unlocked from p there)))
       refl (λ y. refl) same.0 same.1 (arriving_places k from c s p at h.places there)
       (subst (λ (y : Stepped). AreDue k y.out.send (λ z. asked_server (without_question k e c.lines z).client.exchange)) (sym is)
-      (answers_due e there)))
+      (answers_due e refl there)))
 
   -- ## All of them
 
   by_peer : (from : ℕ) (m : PeerMsg) → IsThere k (event.FromPeer from m) c → word_in m ≡ None
-      → ClusterStands skew greatest (after_step k (event.FromPeer from m) (event_step (event.FromPeer from m) s) c)
+      → ClusterHolds skew greatest (after_step k (event.FromPeer from m) (event_step (event.FromPeer from m) s) c)
   by_peer from (peer.Parcel p) there none = parcel_event from p there
   by_peer from (peer.Prepare m) there none = absurd (cc none)
   by_peer from (peer.Vote m) there none = absurd (cc none)
@@ -295,14 +294,14 @@ module _ (skew greatest k : ℕ) (c : Cluster) (s : Server) (at : slice_get c.se
   by_peer from (peer.Done m) there none = absurd (cc none)
 
   by_client : (by : Session) (m : ClientMsg) → IsThere k (event.FromClient by m) c → IsNoneOfLed (event.FromClient by m)
-      → ClusterStands skew greatest (after_step k (event.FromClient by m) (event_step (event.FromClient by m) s) c)
+      → ClusterHolds skew greatest (after_step k (event.FromClient by m) (event_step (event.FromClient by m) s) c)
   by_client by (Lead m) there none = absurd none
   by_client by (Ask items dir) there none = asked_event by (Ask items dir) tt there
   by_client by (Renew pairs) there none = asked_event by (Renew pairs) tt there
   by_client by (Release pairs) there none = asked_event by (Release pairs) tt there
   by_client by (Ship entries) there none = asked_event by (Ship entries) tt there
 
-  pub other_event : (e : ServerEvent) → IsThere k e c → IsNoneOfLed e → ClusterStands skew greatest (after_step k e (event_step e s) c)
+  pub other_event : (e : ServerEvent) → IsThere k e c → IsNoneOfLed e → ClusterHolds skew greatest (after_step k e (event_step e s) c)
   other_event (event.FromClient by m) there none = by_client by m there none
   other_event (event.FromPeer from m) there none = by_peer from m there none
   other_event event.Turn there none = turn_event

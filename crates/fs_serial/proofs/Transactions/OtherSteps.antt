@@ -14,8 +14,7 @@ use Rattle.fs_txn.specs.Grants.{Decided, effects_in}
 use Rattle.fs_serial.specs.Cluster.{Cluster, IsThere, after_step, parcels_of}
 use Rattle.fs_serial.specs.Decided.{WorldStands}
 use Rattle.fs_serial.specs.Joined.{records_of_all, with_parcels}
-use Rattle.fs_serial.specs.Meanwhile.{ClusterStands, world_meanwhile}
-use Rattle.fs_serial.specs.Seen.{given_at, reaps_at}
+use Rattle.fs_serial.specs.Seen.{ClusterHolds, given_at, reaps_at, world_of}
 use Rattle.fs_serial.specs.Words.{IsNoneOfLed, decided_in}
 use Rattle.fs_serial.specs.World.{World}
 use Rattle.fs_serial.proofs.DecidedEffects.DecidedKept.{lapse_fits, last_fits}
@@ -31,9 +30,9 @@ use Rattle.fs_serial.proofs.Transactions.StandsAfter.{all_stand, view}
 use Rattle.fs_serial.proofs.WholeRuns.Views.{count_set}
 
 module _ (skew greatest now k : ℕ) (s : Server) (c : Cluster) (at : slice_get c.servers k ≡ Some s) (before : max s.last now ≤ greatest)
-    (h : ClusterStands skew greatest c) where
+    (h : ClusterHolds skew greatest c) where
   abbrev w : World
-  w = world_meanwhile s c
+  w = world_of s c
 
   abbrev stays : Row → Bool
   stays = keep greatest now k s c at before h.places
@@ -58,7 +57,7 @@ module _ (skew greatest now k : ℕ) (s : Server) (c : Cluster) (at : slice_get 
         (lapse_fits w stays (λ r i lock. kept_locked greatest now k s c at before h.places r lock) standing.1),
   )
 
-  seen_then : WorldStands greatest (world_meanwhile (begun now s) then)
+  seen_then : WorldStands greatest (world_of (begun now s) then)
   seen_then =
       let me : s.me ≡ k = h.places.numbered k s at in
       let decided : decided_in then ≡ decided_in c =
@@ -66,7 +65,7 @@ module _ (skew greatest now k : ℕ) (s : Server) (c : Cluster) (at : slice_get 
       refl in
       let records : records_of_all then.servers (parcels_of c.in_flight) ≡ records_of_all c.servers (parcels_of c.in_flight) =
       ap (with_parcels (parcels_of c.in_flight)) (same_records c.servers k s (begun now s) empty at refl) in
-      stands_alike greatest risen (world_meanwhile (begun now s) then) (record {
+      stands_alike greatest risen (world_of (begun now s) then) (record {
         rows = rows_are greatest now k s c at before h.places;
         records = ap₂ (λ (ds : List Decided) (m : RecordMap). held_with (effects_in ds) m) decided records;
         skew = refl;
@@ -78,17 +77,17 @@ module _ (skew greatest now k : ℕ) (s : Server) (c : Cluster) (at : slice_get 
       }) decided records before risen_stands
 
   -- all that holds holds when the event begins
-  pub begins_stands : ClusterStands skew greatest then
+  pub begins_stands : ClusterHolds skew greatest then
   begins_stands =
       all_stand skew greatest k c s at h then (begun now s) refl refl before (places_then greatest now k s c at before h.places)
       (begun_keeps_led k now s c at h.led) seen_then h.addressed
 
 pub other_step : (skew greatest now k : ℕ) (e : ServerEvent) (s : Server) (c : Cluster) → slice_get c.servers k ≡ Some s
-    → max s.last now ≤ greatest → IsThere k e c → IsNoneOfLed e → ClusterStands skew greatest c
-    → ClusterStands skew greatest (after_step k e (step s now e) c)
+    → max s.last now ≤ greatest → IsThere k e c → IsNoneOfLed e → ClusterHolds skew greatest c
+    → ClusterHolds skew greatest (after_step k e (step s now e) c)
 other_step skew greatest now k e s c at before there none h =
     let x : Stepped = step s now e in
     let after : Cluster = after_step k e x c in
-    subst (λ (ss : List Server). ClusterStands skew greatest (record after { servers = ss })) (set_twice c.servers k (begun now s) x.server)
+    subst (λ (ss : List Server). ClusterHolds skew greatest (record after { servers = ss })) (set_twice c.servers k (begun now s) x.server)
     (other_event skew greatest k (begun_at now k s c) (begun now s) (get_here c.servers k s (begun now s) at)
     (begins_stands skew greatest now k s c at before h) e (there_begun now k s e c there) none)

@@ -1,5 +1,5 @@
 -- A server that does not lead an operation now keeps all.
-use Rattle.std.proofs.Common.{◌≡◌, ℕ, [], ◌∷◌, ◌++◌, append-nil, refl, sym, ap, ◌∙◌, subst}
+use Rattle.std.proofs.Common.{◌≡◌, ℕ, [], ◌∷◌, append-nil, refl, sym, ap, ◌∙◌, subst}
 use Rattle.std.specs.Prelude.{Some, slice_get}
 use Rattle.fs_ident.specs.declared.actor.Session.{Session}
 use Rattle.fs_ident.proofs.Passing.{found}
@@ -18,15 +18,12 @@ use Rattle.fs_serial.specs.Cluster.{Cluster, IsThere, after_step, is_with, witho
 use Rattle.fs_serial.specs.Decided.{WorldStands}
 use Rattle.fs_serial.specs.Exchange.{asked_server}
 use Rattle.fs_serial.specs.Leading.{LeavesLed}
-use Rattle.fs_serial.specs.Meanwhile.{ClusterStands, world_meanwhile}
 use Rattle.fs_serial.specs.Owed.{ends_in}
-use Rattle.fs_serial.specs.Parts.{with_replies}
-use Rattle.fs_serial.specs.Seen.{counts_of, with_all}
+use Rattle.fs_serial.specs.Seen.{ClusterHolds, counts_of, with_all, world_of}
 use Rattle.fs_serial.specs.Words.{decided_in}
 use Rattle.fs_serial.specs.World.{World}
 use Rattle.fs_serial.specs.World as world
 use Rattle.fs_serial.proofs.ClientMessages.Due.{one_due}
-use Rattle.fs_serial.proofs.LedOperations.LeadEvents.{none_more}
 use Rattle.fs_serial.proofs.LedOperations.LeadSame.{refuse_same}
 use Rattle.fs_serial.proofs.LedOperations.LedSteps.{freed_fits, world_freed}
 use Rattle.fs_serial.proofs.Transactions.LeavesLed.{leaves_led, tables_itself}
@@ -34,13 +31,13 @@ use Rattle.fs_serial.proofs.Transactions.OthersKeep.{taken_client}
 use Rattle.fs_serial.proofs.Transactions.SeenMeanwhile.{asked_up}
 use Rattle.fs_serial.proofs.Transactions.StandsAfter.{made, ones, stands_after, view}
 
-module _ (skew greatest k : ℕ) (c : Cluster) (s : Server) (at : slice_get c.servers k ≡ Some s) (h : ClusterStands skew greatest c)
+module _ (skew greatest k : ℕ) (c : Cluster) (s : Server) (at : slice_get c.servers k ≡ Some s) (h : ClusterHolds skew greatest c)
     (by : Session) (m : ToLead) (there : IsThere k (FromClient by (Lead m)) c) (why : Why) where
   abbrev e : ServerEvent
   e = FromClient by (Lead m)
 
   abbrev w : World
-  w = world_meanwhile s c
+  w = world_of s c
 
   -- what the server that has all answers
   abbrev big : Stepped
@@ -76,19 +73,12 @@ module _ (skew greatest k : ℕ) (c : Cluster) (s : Server) (at : slice_get c.se
         counts = counts_of c.servers;
         decided = decided_in c;
         journal = journal;
-        replied = with_replies by (c.replied by ++ []) c.replied;
+        replied = c.replied;
         ends = world.with_sent big.out.send (world.without_taken e (ends_in c));
       })) (sym (append-nil c.journal))
-      (subst (λ replied. WorldStands greatest (record {
-        server = with_all s c;
-        counts = counts_of c.servers;
-        decided = decided_in c;
-        journal = c.journal;
-        replied = replied;
-        ends = world.with_sent big.out.send (world.without_taken e (ends_in c));
-      })) (sym (none_more by c.replied)) freed)
+      freed
 
-  pub put_off_keeps : ClusterStands skew greatest (after_step k e (refuses by why s) c)
+  pub put_off_keeps : ClusterHolds skew greatest (after_step k e (refuses by why s) c)
   put_off_keeps =
       let asked = λ (z : Session). asked_server (without_question k e c.lines z).client.exchange in
       let due : asked by ≡ Some k =

@@ -114,13 +114,15 @@ meanwhile_taken k e c there one x = refl
 
 -- ## The step
 
+-- what is taken stays where what it leads does
+pub taken_same : (ss : List Server) (k : ℕ) (s t : Server) → slice_get ss k ≡ Some s → t.leading ≡ s.leading → (y : Session)
+    (led : Option Led) → taken_leads y led (slice_set ss k t) ≡ taken_leads y led ss
+taken_same ss k s t at leading y led = each_same (taken_at y led) ss k s t at
+    (ap (λ (ls : List Leading). flat_map (λ (l : Leading). question_of led)
+    (filter (λ (l : Leading). l.leader.session.0 == y.0) ls)) leading)
+
 module _ (ss : List Server) (k : ℕ) (s t : Server) (at : slice_get ss k ≡ Some s) (leading : t.leading ≡ s.leading)
     (ending : t.ending ≡ s.ending) where
-  taken_same : (y : Session) (led : Option Led) → taken_leads y led (slice_set ss k t) ≡ taken_leads y led ss
-  taken_same y led = each_same (taken_at y led) ss k s t at
-      (ap (λ (ls : List Leading). flat_map (λ (l : Leading). question_of led)
-      (filter (λ (l : Leading). l.leader.session.0 == y.0) ls)) leading)
-
   owed_same : (y : Session) → owed_to y (slice_set ss k t) ≡ owed_to y ss
   owed_same y = each_same (owed_at y) ss k s t at
       (ap (λ (es : List Ending). map (λ (z : Ending). answer.Led z.end) (filter (λ (z : Ending). z.session.0 == y.0) es)) ending)
@@ -130,7 +132,7 @@ module _ (ss : List Server) (k : ℕ) (s t : Server) (at : slice_get ss k ≡ So
   ends_same y l =
       ap₂ (λ (ts : List ClientMsg) (os : List Answer). let z : Ends =
       record { client = l.client; up = messages l.up ++ ts; down = os ++ messages l.down } in z)
-      (taken_same y l.client.led) (owed_same y)
+      (taken_same ss k s t at leading y l.client.led) (owed_same y)
 
 module _ (k : ℕ) (e : ServerEvent) (s : Server) (x : Stepped) (c : Cluster) (at : slice_get c.servers k ≡ Some s)
     (q : LeavesLed k e s x c) where

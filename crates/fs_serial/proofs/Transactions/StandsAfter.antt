@@ -15,10 +15,9 @@ use Rattle.fs_serial.specs.Cluster.{Cluster, IsThere, after_step, replies_after,
 use Rattle.fs_serial.specs.Decided.{WorldStands}
 use Rattle.fs_serial.specs.Exchange.{OneExchange, asked_server}
 use Rattle.fs_serial.specs.Leading.{LeavesLed, LedHolds}
-use Rattle.fs_serial.specs.Meanwhile.{ClusterStands, world_meanwhile}
 use Rattle.fs_serial.specs.Owed.{ends_in}
 use Rattle.fs_serial.specs.Places.{PlacesHold}
-use Rattle.fs_serial.specs.Seen.{IsAddressed, counts_of, given_at, reaps_at}
+use Rattle.fs_serial.specs.Seen.{ClusterHolds, IsAddressed, counts_of, given_at, reaps_at, world_of}
 use Rattle.fs_serial.specs.Sight.{count_with}
 use Rattle.fs_serial.specs.Words.{decided_in}
 use Rattle.fs_serial.specs.World.{World}
@@ -37,9 +36,9 @@ use Rattle.fs_serial.proofs.WholeRuns.Views.{count_at_place, count_set}
 
 pub other_meanwhile : (greatest : ℕ) (c : Cluster) (s t : Server) (i j : ℕ) → slice_get c.servers i ≡ Some s → s.me ≡ i
     → slice_get c.servers j ≡ Some t → t.me ≡ j → t.skew ≡ s.skew → t.last ≤ greatest
-    → WorldStands greatest (world_meanwhile s c) → WorldStands greatest (world_meanwhile t c)
+    → WorldStands greatest (world_of s c) → WorldStands greatest (world_of t c)
 other_meanwhile greatest c s t i j at me at2 me2 skew clock =
-    stands_alike greatest (world_meanwhile s c) (world_meanwhile t c) (record {
+    stands_alike greatest (world_of s c) (world_of t c) (record {
       rows = refl;
       records = refl;
       skew = skew;
@@ -52,14 +51,14 @@ other_meanwhile greatest c s t i j at me at2 me2 skew clock =
 
 pub all_meanwhile : (skew greatest k : ℕ) (c : Cluster) (s : Server) → slice_get c.servers k ≡ Some s → PlacesHold c
     → ((t : Server) → In t c.servers → t.skew ≡ skew) → ((t : Server) → In t c.servers → t.last ≤ greatest)
-    → WorldStands greatest (world_meanwhile s c) → (t : Server) → In t c.servers → WorldStands greatest (world_meanwhile t c)
+    → WorldStands greatest (world_of s c) → (t : Server) → In t c.servers → WorldStands greatest (world_of t c)
 all_meanwhile skew greatest k c s at places skewed clocks h t i =
     let q = In_at c.servers t i in
     other_meanwhile greatest c s t k q.place at (places.numbered k s at) q.is (places.numbered q.place t q.is)
     (skewed t i ∙ sym (skewed s (In-got c.servers k s at))) (clocks t i) h
 
-module _ (skew greatest k : ℕ) (c : Cluster) (s : Server) (at : slice_get c.servers k ≡ Some s) (h : ClusterStands skew greatest c) where
-  pub view : WorldStands greatest (world_meanwhile s c)
+module _ (skew greatest k : ℕ) (c : Cluster) (s : Server) (at : slice_get c.servers k ≡ Some s) (h : ClusterHolds skew greatest c) where
+  pub view : WorldStands greatest (world_of s c)
   view = h.parts s (In-got c.servers k s at)
 
   me : s.me ≡ k
@@ -70,8 +69,8 @@ module _ (skew greatest k : ℕ) (c : Cluster) (s : Server) (at : slice_get c.se
 
   -- what one server that stepped sees, all see
   pub all_stand : (then : Cluster) (t : Server) → then.servers ≡ slice_set c.servers k t → t.skew ≡ s.skew → t.last ≤ greatest
-      → PlacesHold then → LedHolds then → WorldStands greatest (world_meanwhile t then)
-      → ((x : Session) → IsAddressed (then.lines x)) → ClusterStands skew greatest then
+      → PlacesHold then → LedHolds then → WorldStands greatest (world_of t then)
+      → ((x : Session) → IsAddressed (then.lines x)) → ClusterHolds skew greatest then
   all_stand then t set same clock places led seen addressed =
       let there : slice_get then.servers k ≡ Some t = ap (λ ss. slice_get ss k) set ∙ get_here c.servers k s t at in
       let skewed : (u : Server) → In u then.servers → u.skew ≡ skew = λ u i.
@@ -114,11 +113,11 @@ module _ (skew greatest k : ℕ) (c : Cluster) (s : Server) (at : slice_get c.se
         let was : s.last ≤ greatest = view.0.clock in
         omega (arith, last, was)
 
-    pub seen_after : WorldStands greatest made → WorldStands greatest (world_meanwhile small.server after)
+    pub seen_after : WorldStands greatest made → WorldStands greatest (world_of small.server after)
     seen_after =
         let decided : decided_in after ≡ decided_in c = decided_after k e s small c at leaves in
         let records = sym (ap (λ (t : Server). t.records) q.server) in
-        stands_alike greatest made (world_meanwhile small.server after) (record {
+        stands_alike greatest made (world_of small.server after) (record {
           rows = sym (ap (λ (t : Server). t.rows) q.server);
           records = ap₂ (λ (ds : List Decided) (m : RecordMap). held_with (effects_in ds) m) decided records;
           skew = sym (ap (λ (t : Server). t.skew) q.server);
@@ -133,7 +132,7 @@ module _ (skew greatest k : ℕ) (c : Cluster) (s : Server) (at : slice_get c.se
         }) decided records clock
 
     pub stands_after : AreDue k small.out.send (λ z. asked_server (without_question k e c.lines z).client.exchange)
-        → WorldStands greatest made → ClusterStands skew greatest after
+        → WorldStands greatest made → ClusterHolds skew greatest after
     stands_after due held =
         all_stand after small.server refl q.skew clock (step_places k e s small big c at h.places q)
         (step_keeps_led k e s small c at h.led leaves) (seen_after held) (sent_addressed k small.out.send (without_question k e c.lines) due (taken_addressed k e c.lines h.addressed))

@@ -32,10 +32,10 @@ use Rattle.fs_txn.proofs.Keys.{kept_in, txn_is, txn_itself}
 use Rattle.fs_serial.specs.Cluster.{Cluster, with_sent}
 use Rattle.fs_serial.specs.Exchange.{due}
 use Rattle.fs_serial.specs.Leading.{IsLeading}
-use Rattle.fs_serial.specs.Meanwhile.{ClusterStands, world_meanwhile}
 use Rattle.fs_serial.specs.Owed.{ends_in, ends_with, owed_at, owed_to, question_of, taken_at, taken_leads}
 use Rattle.fs_serial.specs.World.{Ends, World, WorldHolds, with_answer, with_ends, without_question}
 use Rattle.fs_serial.specs.World as world
+use Rattle.fs_serial.specs.Seen.{ClusterHolds, world_of}
 use Rattle.fs_serial.proofs.ClientMessages.Reordered.{reordered}
 use Rattle.fs_serial.proofs.ClientMessages.Sending.{asked}
 use Rattle.fs_serial.proofs.DecidedEffects.OwnApart.{one_each}
@@ -50,7 +50,7 @@ use Rattle.fs_serial.proofs.Transactions.Undecided.{up_led}
 -- ## Lists
 
 -- what is left out has not what is asked for
-left_same : {X : Type 0} (p q : X → Bool) (xs : List X) → ((x : X) → In x xs → p x ≡ true → q x ≡ true)
+pub left_same : {X : Type 0} (p q : X → Bool) (xs : List X) → ((x : X) → In x xs → p x ≡ true → q x ≡ true)
     → filter p (filter q xs) ≡ filter p xs
 left_same p q [] h = refl
 left_same p q (x ∷ xs) h = at (p x) (q x) refl refl (left_same p q xs (λ y i. h y (inr i)))
@@ -83,12 +83,12 @@ module _ (by : Session) (a : Answer) (ends : Session → Ends) where
 
 -- ## The session
 
-module _ (k skew greatest : ℕ) (c : Cluster) (s : Server) (at : slice_get c.servers k ≡ Some s) (h : ClusterStands skew greatest c)
+module _ (k skew greatest : ℕ) (c : Cluster) (s : Server) (at : slice_get c.servers k ≡ Some s) (h : ClusterHolds skew greatest c)
     (l : Leading) (there : In l s.leading) (d : Decision) where
   s_in : In s c.servers
   s_in = In-got c.servers k s at
 
-  view : WorldHolds greatest (world_meanwhile s c)
+  view : WorldHolds greatest (world_of s c)
   view = (h.parts s s_in).0
 
   pub leads : IsLeading c.lines s h.led.parts l
@@ -144,7 +144,7 @@ module _ (k skew greatest : ℕ) (c : Cluster) (s : Server) (at : slice_get c.se
   its_up = up_led skew greatest c s s_in h by s s_in l there refl m led_is
 
   pub silent : due (ends_in c by).down ≡ []
-  silent = (asked greatest (world_meanwhile s c) s c.journal by asks its_end its_up view).silent
+  silent = (asked greatest (world_of s c) s c.journal by asks its_end its_up view).silent
 
   -- ## It asks for nothing else
 

@@ -18,17 +18,17 @@ use Rattle.fs_txn.proofs.Keys.{kept_in}
 use Rattle.fs_serial.specs.Cluster.{Cluster, IsThere, is_with}
 use Rattle.fs_serial.specs.Exchange.{IsToBeLed}
 use Rattle.fs_serial.specs.Led.{LedStands}
-use Rattle.fs_serial.specs.Meanwhile.{ClusterStands, world_meanwhile}
 use Rattle.fs_serial.specs.Owed.{ends_in, question_of, taken_at, taken_leads}
 use Rattle.fs_serial.specs.World.{Ends, World, WorldHolds, settled_at, sight_in}
+use Rattle.fs_serial.specs.Seen.{ClusterHolds, world_of}
 use Rattle.fs_serial.proofs.LedOperations.LedSteps.{led_is, led_stands, to_lead}
 use Rattle.fs_serial.proofs.Lists.Traffic.{messages}
 use Rattle.fs_serial.proofs.OneServer.ServerEvents.{one_up}
 use Rattle.fs_serial.proofs.Transactions.Tables.{In_all}
 
-module _ (skew greatest : ℕ) (c : Cluster) (s : Server) (i : In s c.servers) (h : ClusterStands skew greatest c) (by : Session) where
+module _ (skew greatest : ℕ) (c : Cluster) (s : Server) (i : In s c.servers) (h : ClusterHolds skew greatest c) (by : Session) where
   abbrev w : World
-  w = world_meanwhile s c
+  w = world_of s c
 
   abbrev e : Ends
   e = ends_in c by

@@ -26,12 +26,12 @@ use Rattle.fs_txn.proofs.Yeses.{commit_yes}
 use Rattle.fs_serial.specs.Cluster.{Cluster, parcels_of}
 use Rattle.fs_serial.specs.Leading.{IsLeading, IsLedBy, LedHolds}
 use Rattle.fs_serial.specs.Led.{LedStands}
-use Rattle.fs_serial.specs.Meanwhile.{ClusterStands, world_meanwhile}
 use Rattle.fs_serial.specs.Owed.{ends_in}
 use Rattle.fs_serial.specs.Pending.{AllStand, Stands}
 use Rattle.fs_serial.specs.Refusals.{rows_in}
 use Rattle.fs_serial.specs.Words.{key_of, said_at}
 use Rattle.fs_serial.specs.World.{settled_at, sight_in}
+use Rattle.fs_serial.specs.Seen.{ClusterHolds, world_of}
 use Rattle.fs_serial.proofs.DecidedEffects.ToldParts.{HasReady}
 use Rattle.fs_serial.proofs.Lists.Servers.{In_at}
 use Rattle.fs_serial.proofs.Places.HeldRows.{row_of_all}
@@ -75,7 +75,7 @@ voted_all l mode none n v e =
     ap (λ o. unless_ended o (agreed l None)) none ∙ ap (λ m. cond (needs_path m l.op) (by_path l None) (commit l r)) mode in
     e ∙ ap Some (commit_yes l None r _ goes v (In-got l.votes n v e))
 
-module _ (k skew greatest : ℕ) (c : Cluster) (s : Server) (at : slice_get c.servers k ≡ Some s) (h : ClusterStands skew greatest c)
+module _ (k skew greatest : ℕ) (c : Cluster) (s : Server) (at : slice_get c.servers k ≡ Some s) (h : ClusterHolds skew greatest c)
     (l : Leading) (j : In l s.leading) (d : TheLed) (led : IsLedBy c.lines l.leader.session k d) where
   abbrev by : Session
   by = l.leader.session
@@ -90,7 +90,7 @@ module _ (k skew greatest : ℕ) (c : Cluster) (s : Server) (at : slice_get c.se
   it = let both : Some leads.led ≡ Some d = sym leads.client.led ∙ led.led in cc
 
   -- what it leads stands, as its session has it
-  pub session_stands : LedStands skew greatest (sight_in (world_meanwhile s c)) by (settled_at by (ends_in c by)) d
+  pub session_stands : LedStands skew greatest (sight_in (world_of s c)) by (settled_at by (ends_in c by)) d
   session_stands = stands skew greatest c s here h by (lead_of d) (up_led skew greatest c s here h by s here l j refl d led.led) d led.led
 
   its_parts : l.leader.parts ≡ parts_in (lead_of d)

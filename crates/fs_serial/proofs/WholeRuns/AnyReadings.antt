@@ -1,5 +1,6 @@
--- What holds whatever the clocks show. Clocks matter for what is admitted at once: a session whose lease has lost its row may read
--- what is no longer so. Nothing else rests on such an item, so that another one may stand in its place, which is right and makes no file.
+-- What holds whatever the clocks show. Clocks matter for what is admitted at once: a session
+-- whose lease has lost its row may read what is no longer so. Nothing else rests on such an item, so that another one may stand in
+-- its place, which is right and makes no file.
 use Rattle.std.proofs.Common.{◌≡◌, ℕ, ◌≤◌, max, true, false, List, [], ◌∷◌, ◌++◌, cond, refl, ap, sym, ◌∙◌, subst, arith}
 use Rattle.std.specs.Prelude.{◌≢◌, Option, Some, None, is_some, option_map, slice_get}
 use Rattle.fs_ident.specs.declared.actor.Session.{Session}
@@ -16,11 +17,11 @@ use Rattle.fs_msg.specs.declared.act.Busy.TheVariants as busy
 use Rattle.fs_msg.specs.declared.answer.Answer.{Answer}
 use Rattle.fs_msg.specs.declared.client_note.ClientNote.TheVariants as client_note
 use Rattle.fs_msg.specs.declared.item.Item.{Item}
-use Rattle.fs_msg.specs.declared.server_note.ServerNote.TheVariants as server_note
 use Rattle.fs_record.specs.Effects.{tells_its_effects}
 use Rattle.fs_record.specs.Records.{nodes_of}
 use Rattle.fs_record.specs.declared.parcel.Parcel.{Parcel}
-use Rattle.fs_client.specs.Acts.{act_on, act_plan, answer_with, answers, ask_for, asks, full_one, hinted, need_file, stays, unless_led, with_id, worth}
+use Rattle.fs_client.specs.Acts.{act_on, act_plan, answer_with, answers, ask_for, asks, full_one, hinted, need_file, stays, unless_led}
+use Rattle.fs_client.specs.Acts.{with_id, worth}
 use Rattle.fs_client.specs.Answers.{answer_plan}
 use Rattle.fs_client.specs.Client.{begun}
 use Rattle.fs_client.specs.Turns.{turn_plan}
@@ -32,31 +33,36 @@ use Rattle.fs_server.specs.declared.event.ServerEvent.{ServerEvent}
 use Rattle.fs_server.specs.declared.event.ServerEvent.TheVariants.{FromClient, FromPeer, Turn, Recall, Move}
 use Rattle.fs_server.specs.declared.state.Server.{Server}
 use Rattle.fs_view.specs.View.{View, missing_in, reply_in}
-use Rattle.fs_serial.specs.Cluster.{replies_after, CanCome, ClientEvent, Cluster, Does, Hears, IsThere, Turns, after_client, after_server, after_server_at, first_cluster}
+use Rattle.fs_serial.specs.Cluster.{replies_after, CanCome, ClientEvent, Cluster, Does, Hears, IsThere, Turns, after_client}
+use Rattle.fs_serial.specs.Cluster.{after_server, after_server_at, first_cluster}
 use Rattle.fs_serial.specs.Fresh.{IsMade, made_by, made_in, or_else, root_kind}
 use Rattle.fs_serial.specs.Places.{IsHome, IsSent, PlacesHold}
-use Rattle.fs_serial.specs.Runs.{AtClient, AtServer, CanHappen, CanRun, ClusterEvent, Dated, IsOrderly, after_event, greatest_in, held_by, run}
-use Rattle.fs_serial.specs.Seen.{ClusterHolds}
+use Rattle.fs_serial.specs.Runs.{AtClient, AtServer, CanHappen, CanRun, ClusterEvent, Dated, IsOrderly, after_event, greatest_in, run}
+use Rattle.fs_serial.specs.Serial.{AreSound}
 use Rattle.fs_serial.specs.World.{pushed, told_by, with_told}
+use Rattle.fs_serial.specs.Seen.{ClusterHolds}
+use Rattle.fs_serial.proofs.DecidedEffects.HeldSeen.{held_same, held_seen}
 use Rattle.fs_serial.proofs.Replies.Answering.{AnswerEnds, answer_ends, as_entry, as_led, as_move, as_read, not_told, put_off}
-use Rattle.fs_serial.proofs.WholeRuns.ClusterClients.{answer_fits, does_plainly, hear_event, plain_event, some_server, turn_event}
+use Rattle.fs_serial.proofs.Transactions.ClientsStand.{answer_known, hears_stands, plain_stands, plainly, turn_stands}
+use Rattle.fs_serial.proofs.Transactions.FirstStands.{first_stands}
+use Rattle.fs_serial.proofs.WholeRuns.ClusterClients.{some_server}
+use Rattle.fs_serial.proofs.Lists.Journals.{made_in-append, or_assoc, or_none}
 use Rattle.fs_serial.proofs.WholeRuns.ClusterRuns.{cluster_later}
 use Rattle.fs_serial.proofs.WholeRuns.ClusterSteps.{server_keeps}
-use Rattle.fs_serial.proofs.Lists.Journals.{made_in-append, or_assoc, or_none}
-use Rattle.fs_serial.proofs.WholeRuns.FirstCluster.{first_all}
 use Rattle.fs_serial.proofs.Replies.Read.{no_kind, plain_read, unmade_read}
-use Rattle.fs_serial.proofs.WholeRuns.Strange.{none_strange}
 
 -- ## Items that make the same files
 
 made_all : (xs more : List Item) (id : List ℕ) → made_in (xs ++ more) id ≡ or_else (made_in xs id) (made_in more id)
 made_all [] more id = refl
-made_all (x ∷ xs) more id = ap (or_else (made_by x.op x.reply id)) (made_all xs more id) ∙ or_assoc (made_by x.op x.reply id) (made_in xs id) (made_in more id)
+made_all (x ∷ xs) more id = ap (or_else (made_by x.op x.reply id)) (made_all xs more id)
+    ∙ or_assoc (made_by x.op x.reply id) (made_in xs id) (made_in more id)
 
 same_behind : (xs ys more : List Item) (id : List ℕ) → made_in xs id ≡ made_in ys id → made_in (xs ++ more) id ≡ made_in (ys ++ more) id
 same_behind xs ys more id e = made_all xs more id ∙ ap (λ (k : Option Kind). or_else k (made_in more id)) e ∙ sym (made_all ys more id)
 
-same_pushed : (o : Option Item) (xs ys : List Item) (id : List ℕ) → made_in xs id ≡ made_in ys id → made_in (pushed o xs) id ≡ made_in (pushed o ys) id
+same_pushed : (o : Option Item) (xs ys : List Item) (id : List ℕ) → made_in xs id ≡ made_in ys id
+    → made_in (pushed o xs) id ≡ made_in (pushed o ys) id
 same_pushed None xs ys id e = e
 same_pushed (Some i) xs ys id e = same_behind xs ys (i ∷ []) id e
 
@@ -68,7 +74,8 @@ abbrev MakesNone : Option Item → Type 0
 MakesNone None = Unit {0}
 MakesNone (Some i) = (id : List ℕ) → made_by i.op i.reply id ≡ None
 
-same_read : (put : Item → Item) → ((i : Item) (id : List ℕ) → made_by (put i).op (put i).reply id ≡ None) → (o : Option Item) → MakesNone o → (xs ys : List Item) (id : List ℕ) → made_in xs id ≡ made_in ys id
+same_read : (put : Item → Item) → ((i : Item) (id : List ℕ) → made_by (put i).op (put i).reply id ≡ None) → (o : Option Item)
+    → MakesNone o → (xs ys : List Item) (id : List ℕ) → made_in xs id ≡ made_in ys id
     → made_in (pushed (option_map put o) xs) id ≡ made_in (pushed o ys) id
 same_read put silent None h xs ys id e = e
 same_read put silent (Some i) h xs ys id e = makes_none xs (put i) id (silent i id) ∙ e ∙ sym (makes_none ys i id (h id))
@@ -82,16 +89,20 @@ full_none (need.Fresh dir ∷ needs) c = tt
 
 ask_none : (needs some : List Need) (c : Client) → MakesNone (ask_for needs some c).out.admitted
 ask_none needs [] c = full_none needs c
-ask_none needs (n ∷ ns) c = elim (is_some c.exchange) as (λ b. MakesNone (cond b (stays (act.Busy busy.Exchange) c) (asks (hinted c (need_file n)) (n ∷ ns) c)).out.admitted) [ true ↦ tt | false ↦ tt ]
+ask_none needs (n ∷ ns) c = elim (is_some c.exchange) as
+    (λ b. MakesNone (cond b (stays (act.Busy busy.Exchange) c) (asks (hinted c (need_file n)) (n ∷ ns) c)).out.admitted)
+    [ true ↦ tt | false ↦ tt ]
 
 -- nor does a delete or a rename
-unmade_move : (v : View) (now : ℕ) (o : Op) (r : Reply) (id : List ℕ) → tells_its_effects o ≡ false → made_by (with_id v now o r) r id ≡ None
+unmade_move : (v : View) (now : ℕ) (o : Op) (r : Reply) (id : List ℕ) → tells_its_effects o ≡ false
+    → made_by (with_id v now o r) r id ≡ None
 unmade_move v now (op.Create dir name kind new) r id h = absurd (cc)
 unmade_move v now o r id h = refl
 
 each_none : (o : Op) (r : Reply) (c : Client) (p : Plan Act) → AnswerEnds o r c p → MakesNone p.out.admitted
 each_none o r c p (as_entry t) = tt
-each_none o r c p (as_read t n e) = λ id. no_kind (made_by (with_id c.view c.last o r) r id) (unmade_read (with_id c.view c.last o r) r id n)
+each_none o r c p (as_read t n e) = λ id. no_kind (made_by (with_id c.view c.last o r) r id)
+    (unmade_read (with_id c.view c.last o r) r id n)
 each_none o r c p (as_move t n e) = λ id. unmade_move c.view c.last o r id t
 each_none o r c p (as_led t l x e moved k) = tt
 each_none o r c p (put_off what) = tt
@@ -128,24 +139,38 @@ pub record HoldsAnyhow (skew greatest : ℕ) (c : Cluster) : Type 0 where
   pub holds : ClusterHolds skew greatest (told_as journal replied c)
 
 pub anyhow_later : (skew greatest later : ℕ) (c : Cluster) → greatest ≤ later → HoldsAnyhow skew greatest c → HoldsAnyhow skew later c
-anyhow_later skew greatest later c rises h = record { journal = h.journal; replied = h.replied; same = h.same; holds = cluster_later skew greatest later (told_as h.journal h.replied c) rises h.holds }
+anyhow_later skew greatest later c rises h = record {
+  journal = h.journal;
+  replied = h.replied;
+  same = h.same;
+  holds = cluster_later skew greatest later (told_as h.journal h.replied c) rises h.holds;
+}
 
 pub first_anyhow : (servers skew term greatest : ℕ) → 1 ≤ servers → HoldsAnyhow skew greatest (first_cluster servers skew term)
-first_anyhow servers skew term greatest some = record { journal = []; replied = λ x. []; same = λ id. refl; holds = first_all servers skew term greatest some }
+first_anyhow servers skew term greatest some = record {
+  journal = [];
+  replied = λ x. [];
+  same = λ id. refl;
+  holds = first_stands servers skew term greatest some;
+}
 
 -- ## A server's events
 
-there_too : (k : ℕ) (e : ServerEvent) (journal : List Item) (replied : Session → List Item) (c : Cluster) → IsThere k e c → IsThere k e (told_as journal replied c)
+there_too : (k : ℕ) (e : ServerEvent) (journal : List Item) (replied : Session → List Item) (c : Cluster) → IsThere k e c
+    → IsThere k e (told_as journal replied c)
 there_too k (FromClient by m) journal replied c there = there
 there_too k (FromPeer from m) journal replied c there = there
 there_too k Turn journal replied c there = tt
 there_too k (Recall field) journal replied c there = tt
 there_too k (Move prefix to) journal replied c there = there
 
-pub server_anyhow : (skew greatest now k : ℕ) (e : ServerEvent) (s : Server) (c : Cluster) → slice_get c.servers k ≡ Some s → max s.last now ≤ greatest → IsThere k e c → HoldsAnyhow skew greatest c → HoldsAnyhow skew greatest (after_server now k e c)
+pub server_anyhow : (skew greatest now k : ℕ) (e : ServerEvent) (s : Server) (c : Cluster)
+    → slice_get c.servers k ≡ Some s → max s.last now ≤ greatest → IsThere k e c → HoldsAnyhow skew greatest c
+    → HoldsAnyhow skew greatest (after_server now k e c)
 server_anyhow skew greatest now k e s c at before there h =
     let d = told_as h.journal h.replied c in
-    let kept : ClusterHolds skew greatest (after_server now k e d) = server_keeps skew greatest now k e s d at before (there_too k e h.journal h.replied c there) h.holds in
+    let kept : ClusterHolds skew greatest (after_server now k e d) = server_keeps skew greatest now k e s d at before
+    (there_too k e h.journal h.replied c there) h.holds in
     let more = (step s now e).out.admitted in
     subst (λ (o : Option Server). HoldsAnyhow skew greatest (after_server_at o now k e c)) (sym at) (record {
       journal = h.journal ++ more;
@@ -154,25 +179,25 @@ server_anyhow skew greatest now k e s c at before there h =
       holds = subst (λ (o : Option Server). ClusterHolds skew greatest (after_server_at o now k e d)) at kept;
     })
 
-pub server_plain_anyhow : (skew greatest now k : ℕ) (e : ServerEvent) (s : Server) (c : Cluster) → slice_get c.servers k ≡ Some s → max s.last now ≤ greatest → IsThere k e c → HoldsAnyhow skew greatest c → (step s now e).out.note ≢ server_note.Strange
-server_plain_anyhow skew greatest now k e s c at before there h = none_strange skew greatest now k e s (told_as h.journal h.replied c) at before (there_too k e h.journal h.replied c there) h.holds
-
 -- ## A client's events
 
-come_too : (by : Session) (e : ClientEvent) (journal : List Item) (replied : Session → List Item) (c : Cluster) → CanCome by e c → CanCome by e (told_as journal replied c)
+come_too : (by : Session) (e : ClientEvent) (journal : List Item) (replied : Session → List Item) (c : Cluster) → CanCome by e c
+    → CanCome by e (told_as journal replied c)
 come_too by (Does o) journal replied c can = can
 come_too by Turns journal replied c can = tt
 come_too by (Hears from a) journal replied c can = can
 
-pub client_anyhow : (skew greatest now : ℕ) (c : Cluster) (by : Session) → HoldsAnyhow skew greatest c → (e : ClientEvent) → CanCome by e c → HoldsAnyhow skew greatest (after_client by now e c)
+pub client_anyhow : (skew greatest now : ℕ) (c : Cluster) (by : Session) → HoldsAnyhow skew greatest c → (e : ClientEvent)
+    → CanCome by e c → HoldsAnyhow skew greatest (after_client by now e c)
 client_anyhow skew greatest now c by h (Does o) can =
     let d = told_as h.journal h.replied c in
-    let p = does_plainly d by now o in
+    let p = plainly skew greatest d by h.holds now o in
     record {
       journal = pushed p.out.admitted h.journal;
       replied = with_told by (told_by by p.ready.change p.out.admitted) h.replied;
-      same = λ id. same_read (λ i. plain_read (nodes_of (held_by c)) by (c.lines by).client.next) (λ i j. refl) (act_plan (c.lines by).client now o).out.admitted (act_none (c.lines by).client now o) h.journal c.journal id (h.same id);
-      holds = plain_event skew greatest d by h.holds now o can;
+      same = λ id. same_read (λ i. plain_read (nodes_of (held_seen c)) by (c.lines by).client.next) (λ i j. refl)
+          (act_plan (c.lines by).client now o).out.admitted (act_none (c.lines by).client now o) h.journal c.journal id (h.same id);
+      holds = plain_stands skew greatest d by h.holds now o can;
     }
 client_anyhow skew greatest now c by h Turns can =
     let d = told_as h.journal h.replied c in
@@ -181,7 +206,7 @@ client_anyhow skew greatest now c by h Turns can =
       journal = pushed p.out.admitted h.journal;
       replied = with_told by (told_by by p.ready.change p.out.admitted) h.replied;
       same = λ id. same_pushed p.out.admitted h.journal c.journal id (h.same id);
-      holds = turn_event skew greatest d by h.holds now;
+      holds = turn_stands skew greatest d by h.holds now;
     }
 client_anyhow skew greatest now c by h (Hears from a) can =
     let d = told_as h.journal h.replied c in
@@ -190,11 +215,13 @@ client_anyhow skew greatest now c by h (Hears from a) can =
       journal = pushed p.out.admitted h.journal;
       replied = with_told by (told_by by p.ready.change p.out.admitted) h.replied;
       same = λ id. same_pushed p.out.admitted h.journal c.journal id (h.same id);
-      holds = hear_event skew greatest d by h.holds now from a (come_too by (Hears from a) h.journal h.replied c can);
+      holds = hears_stands skew greatest d by h.holds from a (come_too by (Hears from a) h.journal h.replied c can) now;
     }
 
-pub client_plain_anyhow : (skew greatest now from : ℕ) (a : Answer) (by : Session) (c : Cluster) → CanCome by (Hears from a) c → HoldsAnyhow skew greatest c → (answer_plan (c.lines by).client now from a).out.note ≢ client_note.Strange
-client_plain_anyhow skew greatest now from a by c can h = answer_fits skew greatest (told_as h.journal h.replied c) by h.holds now from a (come_too by (Hears from a) h.journal h.replied c can)
+pub client_plain_anyhow : (skew greatest now from : ℕ) (a : Answer) (by : Session) (c : Cluster) → CanCome by (Hears from a) c
+    → HoldsAnyhow skew greatest c → (answer_plan (c.lines by).client now from a).out.note ≢ client_note.Strange
+client_plain_anyhow skew greatest now from a by c can h = answer_known skew greatest (told_as h.journal h.replied c) by h.holds from a
+    (come_too by (Hears from a) h.journal h.replied c can) now
 
 -- ## What comes of it
 
@@ -203,39 +230,69 @@ module _ (skew greatest : ℕ) (c : Cluster) (h : HoldsAnyhow skew greatest c) w
   made_too id m = subst (λ (k : Option Kind). is_some (or_else (root_kind id) k) ≡ true) (h.same id) m
 
   home_too : (s : Server) → IsHome h.journal s → IsHome c.journal s
-  home_too s p = record { map = p.map; listed = λ place i. made_too place (p.listed place i); rows = p.rows; records = p.records; ordered = p.ordered }
+  home_too s p = record {
+    map = p.map;
+    listed = λ place i. made_too place (p.listed place i);
+    rows = p.rows;
+    records = p.records;
+    ordered = p.ordered;
+  }
 
   sent_too : (a : Parcel) → IsSent h.journal a → IsSent c.journal a
-  sent_too a p = record { formed = p.formed; given = p.given; listed = λ place i. made_too place (p.listed place i); each = p.each; ordered = p.ordered; unlocked = p.unlocked }
+  sent_too a p = record {
+    formed = p.formed;
+    given = p.given;
+    listed = λ place i. made_too place (p.listed place i);
+    each = p.each;
+    ordered = p.ordered;
+    unlocked = p.unlocked;
+  }
 
   pub anyhow_places : PlacesHold c
   anyhow_places =
       let p = h.holds.places in
-      record { one = p.one; homes = λ s i. home_too s (p.homes s i); sent = λ a i. sent_too a (p.sent a i); goes = p.goes; ordered = p.ordered; numbered = p.numbered; named = p.named }
+      record {
+        one = p.one;
+        homes = λ s i. home_too s (p.homes s i);
+        sent = λ a i. sent_too a (p.sent a i);
+        goes = p.goes;
+        ordered = p.ordered;
+        numbered = p.numbered;
+        named = p.named;
+      }
 
   pub anyhow_orderly : IsOrderly c
   anyhow_orderly =
       let q = some_server (told_as h.journal h.replied c) h.holds.places in
-      let all = (h.holds.parts q.0 q.1).all in
-      record { places = anyhow_places; apart = all.servers.apart; sound = all.kept.sound }
+      let all = (h.holds.parts q.0 q.1).0.all in
+      record { places = anyhow_places; apart = all.servers.apart; sound = subst AreSound (sym (held_same (told_as h.journal h.replied c) h.holds.led)) all.kept.sound }
 
 -- ## Runs
 
-at_server : (skew greatest now k : ℕ) (e : ServerEvent) (c : Cluster) (o : Option Server) → slice_get c.servers k ≡ o → HoldsAnyhow skew greatest c → IsThere k e c → HoldsAnyhow skew (max greatest now) (after_server now k e c)
+at_server : (skew greatest now k : ℕ) (e : ServerEvent) (c : Cluster) (o : Option Server) → slice_get c.servers k ≡ o
+    → HoldsAnyhow skew greatest c → IsThere k e c → HoldsAnyhow skew (max greatest now) (after_server now k e c)
 at_server skew greatest now k e c None at h there =
-    subst (λ (o : Option Server). HoldsAnyhow skew (max greatest now) (after_server_at o now k e c)) (sym at) (anyhow_later skew greatest (max greatest now) c (omega arith) h)
+    subst (λ (o : Option Server). HoldsAnyhow skew (max greatest now) (after_server_at o now k e c)) (sym at)
+    (anyhow_later skew greatest (max greatest now) c (omega arith) h)
 at_server skew greatest now k e c (Some s) at h there =
-    let clock : s.last ≤ greatest = (h.holds.parts s (In-got c.servers k s at)).clock in
-    server_anyhow skew (max greatest now) now k e s c at (omega arith) there (anyhow_later skew greatest (max greatest now) c (omega arith) h)
+    let clock : s.last ≤ greatest = (h.holds.parts s (In-got c.servers k s at)).0.clock in
+    server_anyhow skew (max greatest now) now k e s c at (omega arith) there
+    (anyhow_later skew greatest (max greatest now) c (omega arith) h)
 
-event_anyhow : (skew greatest now : ℕ) (e : ClusterEvent) (c : Cluster) → HoldsAnyhow skew greatest c → CanHappen e c → HoldsAnyhow skew (max greatest now) (after_event now e c)
+event_anyhow : (skew greatest now : ℕ) (e : ClusterEvent) (c : Cluster) → HoldsAnyhow skew greatest c → CanHappen e c
+    → HoldsAnyhow skew (max greatest now) (after_event now e c)
 event_anyhow skew greatest now (AtServer k e) c h can = at_server skew greatest now k e c (slice_get c.servers k) refl h can
-event_anyhow skew greatest now (AtClient by e) c h can = anyhow_later skew greatest (max greatest now) (after_event now (AtClient by e) c) (omega arith) (client_anyhow skew greatest now c by h e can)
+event_anyhow skew greatest now (AtClient by e) c h can = anyhow_later skew greatest (max greatest now)
+    (after_event now (AtClient by e) c) (omega arith) (client_anyhow skew greatest now c by h e can)
 
-run_anyhow : (skew greatest : ℕ) (es : List Dated) (c : Cluster) → HoldsAnyhow skew greatest c → CanRun es c → HoldsAnyhow skew (greatest_in greatest es) (run es c)
+run_anyhow : (skew greatest : ℕ) (es : List Dated) (c : Cluster) → HoldsAnyhow skew greatest c → CanRun es c
+    → HoldsAnyhow skew (greatest_in greatest es) (run es c)
 run_anyhow skew greatest [] c h r = h
-run_anyhow skew greatest (e ∷ es) c h r = run_anyhow skew (max greatest e.now) es (after_event e.now e.what c) (event_anyhow skew greatest e.now e.what c h r.0) r.1
+run_anyhow skew greatest (e ∷ es) c h r = run_anyhow skew (max greatest e.now) es (after_event e.now e.what c)
+    (event_anyhow skew greatest e.now e.what c h r.0) r.1
 
-pub all_orderly : (servers skew term : ℕ) (es : List Dated) → 1 ≤ servers → CanRun es (first_cluster servers skew term) → IsOrderly (run es (first_cluster servers skew term))
+pub all_orderly : (servers skew term : ℕ) (es : List Dated) → 1 ≤ servers → CanRun es (first_cluster servers skew term)
+    → IsOrderly (run es (first_cluster servers skew term))
 all_orderly servers skew term es some r =
-    anyhow_orderly skew (greatest_in 0 es) (run es (first_cluster servers skew term)) (run_anyhow skew 0 es (first_cluster servers skew term) (first_anyhow servers skew term 0 some) r)
+    anyhow_orderly skew (greatest_in 0 es) (run es (first_cluster servers skew term))
+    (run_anyhow skew 0 es (first_cluster servers skew term) (first_anyhow servers skew term 0 some) r)

@@ -1,46 +1,54 @@
 -- Whatever happens, in whatever order, all parts hold, and the journal is one serial run.
-use Rattle.std.proofs.Common.{◌≡◌, ℕ, ◌+◌, ◌≤◌, max, List, [], ◌∷◌, ◌++◌, length, map, append-nil, refl, sym, subst, arith}
+use Rattle.std.proofs.Common.{◌≡◌, ℕ, ◌+◌, ◌≤◌, max, true, List, [], ◌∷◌, ◌++◌, length, map, append-nil, refl, sym, subst, arith}
 use Rattle.std.specs.Prelude.{Option, Some, None, slice_get}
-use Rattle.fs_ident.proofs.Standing.{In-got}
+use Rattle.std.specs.List.{list_all}
+use Rattle.fs_ident.specs.In.{In}
+use Rattle.fs_ident.specs.declared.actor.Session.{Session}
+use Rattle.fs_ident.proofs.Passing.{found}
+use Rattle.fs_ident.proofs.Standing.{In-front, In-got, In-mapped}
+use Rattle.fs_model.specs.Asking.{home_of}
+use Rattle.fs_model.specs.Sound.{IsSound}
+use Rattle.fs_msg.specs.declared.client_msg.ClientMsg.{ClientMsg}
+use Rattle.fs_msg.specs.declared.client_msg.ClientMsg.TheVariants.{Ship}
+use Rattle.fs_msg.specs.declared.entry.Entry.{Entry}
 use Rattle.fs_msg.specs.declared.item.Item.{Item}
+use Rattle.fs_record.specs.Records.{nodes_of}
+use Rattle.fs_server.specs.Server.{begun, is_mine}
 use Rattle.fs_server.specs.Ships.{item_of}
+use Rattle.fs_server.specs.Step.{step}
 use Rattle.fs_server.specs.declared.event.ServerEvent.{ServerEvent}
+use Rattle.fs_server.specs.declared.event.ServerEvent.TheVariants.{FromClient}
 use Rattle.fs_server.specs.declared.state.Server.{Server}
-use Rattle.fs_serial.specs.Cluster.{Cluster, IsThere, after_server, after_server_at, first_cluster}
+use Rattle.fs_serial.specs.Cluster.{Cluster, IsThere, after_server, after_server_at, first_cluster, is_with}
 use Rattle.fs_serial.specs.Numbers.{AreNumbered, items_at, items_by}
-use Rattle.fs_serial.specs.Runs.{AtClient, AtServer, CanHappen, ClusterEvent, Dated, IsOneSerialRun, IsRun, after_event, greatest_in, run}
-use Rattle.fs_serial.specs.Seen.{ClusterHolds, ends_of, world_of}
+use Rattle.fs_serial.specs.Leading.{LedHolds}
+use Rattle.fs_serial.specs.Owed.{ends_in, taken_leads}
+use Rattle.fs_serial.specs.Refusals.{rows_in}
+use Rattle.fs_serial.specs.Runs.{AtClient, AtServer, CanHappen, ClusterEvent, Dated, IsOneSerialRun, IsRun, after_event, greatest_in, held_by, run}
+use Rattle.fs_serial.specs.Seen.{ClusterHolds, counts_of, world_of}
+use Rattle.fs_serial.specs.Serial.{JournalSerial}
+use Rattle.fs_serial.specs.Sight.{seen}
+use Rattle.fs_serial.specs.Steps.{AllStand, AreRepliesFrom}
 use Rattle.fs_serial.specs.World.{WorldHolds, settled_at}
-use Rattle.fs_serial.proofs.WholeRuns.ClusterClients.{client_event, some_server}
-use Rattle.fs_serial.proofs.WholeRuns.ClusterSteps.{server_keeps}
-use Rattle.fs_serial.proofs.WholeRuns.FirstCluster.{first_all}
+use Rattle.fs_serial.proofs.Admission.Admitted.{admitted_at_once}
+use Rattle.fs_serial.proofs.Admission.PendingRuns.{pending_from}
+use Rattle.fs_serial.proofs.DecidedEffects.HeldSeen.{held_same}
+use Rattle.fs_serial.proofs.Lists.Traffic.{messages}
+use Rattle.fs_serial.proofs.OneServer.ServerEvents.{all_plain}
 use Rattle.fs_serial.proofs.OtherSessions.Rising.{world_later}
+use Rattle.fs_serial.proofs.Transactions.ClientsStand.{client_stands}
+use Rattle.fs_serial.proofs.Transactions.FirstStands.{first_stands}
+use Rattle.fs_serial.proofs.WholeRuns.ClusterClients.{some_server}
+use Rattle.fs_serial.proofs.WholeRuns.ClusterSteps.{server_keeps}
 
 pub cluster_later : (skew greatest later : ℕ) (c : Cluster) → greatest ≤ later → ClusterHolds skew greatest c → ClusterHolds skew later c
 cluster_later skew greatest later c rises h = record {
-  parts = λ s i. world_later greatest later (world_of s c) rises (h.parts s i);
+  parts = λ s i. let p = h.parts s i in (world_later greatest later (world_of s c) rises p.0, p.1);
   skewed = h.skewed;
   addressed = h.addressed;
   places = h.places;
-  handovers = h.handovers;
+  led = h.led;
 }
-
--- ## Runs
-
-at_server : (skew greatest now k : ℕ) (e : ServerEvent) (c : Cluster) (o : Option Server) → slice_get c.servers k ≡ o → ClusterHolds skew greatest c → IsThere k e c → ClusterHolds skew (max greatest now) (after_server now k e c)
-at_server skew greatest now k e c None at h there =
-    subst (λ (o : Option Server). ClusterHolds skew (max greatest now) (after_server_at o now k e c)) (sym at) (cluster_later skew greatest (max greatest now) c (omega arith) h)
-at_server skew greatest now k e c (Some s) at h there =
-    let clock : s.last ≤ greatest = (h.parts s (In-got c.servers k s at)).clock in
-    server_keeps skew (max greatest now) now k e s c at (omega arith) there (cluster_later skew greatest (max greatest now) c (omega arith) h)
-
-event_keeps : (skew greatest now : ℕ) (e : ClusterEvent) (c : Cluster) → ClusterHolds skew greatest c → CanHappen e c → greatest ≤ now + skew → ClusterHolds skew (max greatest now) (after_event now e c)
-event_keeps skew greatest now (AtServer k e) c h can within = at_server skew greatest now k e c (slice_get c.servers k) refl h can
-event_keeps skew greatest now (AtClient by e) c h can within = cluster_later skew greatest (max greatest now) (after_event now (AtClient by e) c) (omega arith) (client_event skew greatest c by h now e can within)
-
-pub run_keeps : (skew greatest : ℕ) (es : List Dated) (c : Cluster) → ClusterHolds skew greatest c → IsRun skew greatest es c → ClusterHolds skew (greatest_in greatest es) (run es c)
-run_keeps skew greatest [] c h r = h
-run_keeps skew greatest (e ∷ es) c h r = run_keeps skew (max greatest e.now) es (after_event e.now e.what c) (event_keeps skew greatest e.now e.what c h r.0 r.1) r.2
 
 -- ## What comes of it
 
@@ -52,18 +60,70 @@ front_numbered k (i ∷ is) more next h = (h.0, subst (AreNumbered (k + 1) is) (
 exactly_numbered : (k : ℕ) (is : List Item) (next : ℕ) → AreNumbered k is next → AreNumbered k is (k + length is)
 exactly_numbered k is next h = front_numbered k is [] next (subst (λ js. AreNumbered k js next) (sym (append-nil is)) h)
 
-seen_outcome : (greatest : ℕ) (s : Server) (c : Cluster) → WorldHolds greatest (world_of s c) → IsOneSerialRun c
-seen_outcome greatest s c h = record {
-  serial = h.all.servers.serial;
-  sound = h.all.kept.sound.space;
-  numbered = λ x. front_numbered 1 (items_by x c.journal) (map (item_of x) (settled_at x (ends_of (c.lines x))).log) _ (h.all.sessions x).numbers;
+seen_outcome : (greatest : ℕ) (s : Server) (c : Cluster) → LedHolds c → WorldHolds greatest (world_of s c) → IsOneSerialRun c
+seen_outcome greatest s c led h = record {
+  serial = subst (JournalSerial c.journal) (sym (held_same c led)) h.all.servers.serial;
+  sound = subst (λ m. IsSound (nodes_of m)) (sym (held_same c led)) h.all.kept.sound.space;
+  numbered = λ x. front_numbered 1 (items_by x c.journal) (map (item_of x) (settled_at x (ends_in c x)).log) _ (h.all.sessions x).numbers;
   reaped = λ k. exactly_numbered 1 (items_at k c.journal) _ (h.all.servers.reaped k);
-  told = λ x. record { rest = map (item_of x) (settled_at x (ends_of (c.lines x))).log; is = sym (h.all.sessions x).replies };
+  told = λ x. record { rest = map (item_of x) (settled_at x (ends_in c x)).log; is = sym (h.all.sessions x).replies };
 }
 
 pub outcome : (skew greatest : ℕ) (c : Cluster) → ClusterHolds skew greatest c → IsOneSerialRun c
-outcome skew greatest c h = let q = some_server c h.places in seen_outcome greatest q.0 c (h.parts q.0 q.1)
+outcome skew greatest c h = let q = some_server c h.places in seen_outcome greatest q.0 c h.led (h.parts q.0 q.1).0
 
-pub all_runs : (servers skew term : ℕ) (es : List Dated) → 1 ≤ servers → IsRun skew 0 es (first_cluster servers skew term) → IsOneSerialRun (run es (first_cluster servers skew term))
+-- what a session has pending is a serial run on from that space, as far as the rows of its leases stand
+pub pending_together : (skew greatest : ℕ) (c : Cluster) (by : Session) (front rest : List Entry) (s : Server)
+    → ClusterHolds skew greatest c → In s c.servers → (settled_at by (ends_in c by)).log ≡ front ++ rest
+    → (settled_at by (ends_in c by)).over ≡ None → AllStand (rows_in c) by front → AreRepliesFrom (nodes_of (held_by c)) by front
+pending_together skew greatest c by front rest s h there log over stand =
+    let v = world_of s c in
+    subst (λ m. AreRepliesFrom (nodes_of m) by front) (sym (held_same c h.led))
+    (pending_from (counts_of c.servers) s.skew greatest c.replied by rest front (seen v.decided v.server) c.journal
+    (λ x. settled_at x (ends_in c x)) (h.parts s there).0.all log over stand)
+
+-- all entries that come are plain, so that one whose rows stand is admitted when it comes
+pub admitted_always : (skew greatest now k : ℕ) (s : Server) (c : Cluster) (by : Session) (front rest : List Entry) (e : Entry)
+    → slice_get c.servers k ≡ Some s → IsThere k (FromClient by (Ship (front ++ e ∷ rest))) c → ClusterHolds skew greatest c
+    → list_all (λ (x : Entry). is_mine s (home_of x.op)) (front ++ e ∷ []) ≡ true → AllStand (begun now s).rows by (front ++ e ∷ [])
+    → In (item_of by e) (step s now (FromClient by (Ship (front ++ e ∷ rest)))).out.admitted
+admitted_always skew greatest now k s c by front rest e at there h mine stand =
+    let entries : List Entry = front ++ e ∷ rest in
+    let coming : In (Ship entries) (ends_in c by).up = In-front (Ship entries) (messages (c.lines by).up)
+    (taken_leads by (c.lines by).client.led c.servers)
+    (In-mapped (λ (n : ℕ × ClientMsg). n.1) (k, Ship entries) (c.lines by).up
+    (found (is_with k) (c.lines by).up (k, Ship entries) there).0) in
+    admitted_at_once s now by front rest e
+    (all_plain greatest (world_of s c) by entries coming (h.parts s (In-got c.servers k s at)).0) mine stand
+
+-- ## Runs
+
+at_server : (skew greatest now k : ℕ) (e : ServerEvent) (c : Cluster) (o : Option Server) → slice_get c.servers k ≡ o
+    → ClusterHolds skew greatest c → IsThere k e c → ClusterHolds skew (max greatest now) (after_server now k e c)
+at_server skew greatest now k e c None at h there =
+    subst (λ (o : Option Server). ClusterHolds skew (max greatest now) (after_server_at o now k e c)) (sym at)
+    (cluster_later skew greatest (max greatest now) c (omega arith) h)
+at_server skew greatest now k e c (Some s) at h there =
+    let clock : s.last ≤ greatest = (h.parts s (In-got c.servers k s at)).0.clock in
+    server_keeps skew (max greatest now) now k e s c at (omega arith) there
+    (cluster_later skew greatest (max greatest now) c (omega arith) h)
+
+event_keeps : (skew greatest now : ℕ) (e : ClusterEvent) (c : Cluster) → ClusterHolds skew greatest c → CanHappen e c
+    → greatest ≤ now + skew
+    → ClusterHolds skew (max greatest now) (after_event now e c)
+event_keeps skew greatest now (AtServer k e) c h can within = at_server skew greatest now k e c (slice_get c.servers k) refl h can
+event_keeps skew greatest now (AtClient by e) c h can within =
+    cluster_later skew greatest (max greatest now) (after_event now (AtClient by e) c) (omega arith)
+    (client_stands skew greatest c by h now e can within)
+
+pub run_keeps : (skew greatest : ℕ) (es : List Dated) (c : Cluster) → ClusterHolds skew greatest c → IsRun skew greatest es c
+    → ClusterHolds skew (greatest_in greatest es) (run es c)
+run_keeps skew greatest [] c h r = h
+run_keeps skew greatest (e ∷ es) c h r =
+    run_keeps skew (max greatest e.now) es (after_event e.now e.what c) (event_keeps skew greatest e.now e.what c h r.0 r.1) r.2
+
+pub all_runs : (servers skew term : ℕ) (es : List Dated) → 1 ≤ servers → IsRun skew 0 es (first_cluster servers skew term)
+    → IsOneSerialRun (run es (first_cluster servers skew term))
 all_runs servers skew term es some r =
-    outcome skew (greatest_in 0 es) (run es (first_cluster servers skew term)) (run_keeps skew 0 es (first_cluster servers skew term) (first_all servers skew term 0 some) r)
+    outcome skew (greatest_in 0 es) (run es (first_cluster servers skew term))
+    (run_keeps skew 0 es (first_cluster servers skew term) (first_stands servers skew term 0 some) r)

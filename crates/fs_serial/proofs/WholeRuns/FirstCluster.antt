@@ -1,5 +1,5 @@
 -- At the start everything is at the first server, and all parts hold.
-use Rattle.std.proofs.Common.{◌≡◌, ℕ, zero, suc, ◌+◌, ◌≤◌, ◌==◌, Bool, true, false, List, [], ◌∷◌, ◌++◌, length, length-append, cond, refl, sym, ap, ◌∙◌, subst, inl, inr, arith, ◌<◌}
+use Rattle.std.proofs.Common.{◌≡◌, ℕ, zero, suc, ◌+◌, ◌==◌, Bool, true, false, List, [], ◌∷◌, ◌++◌, length, length-append, cond, refl, sym, ap, ◌∙◌, subst, inl, inr, arith, ◌<◌}
 use Rattle.std.specs.Prelude.{◌⊎◌, Option, Some, None, is_some, option_map, slice_get, unwrap_or}
 use Rattle.std.specs.List.{filter}
 use Rattle.std.specs.Cmp.Lexicographic.{slice_cmp}
@@ -24,9 +24,10 @@ use Rattle.fs_server.specs.declared.state.Server.{Server}
 use Rattle.fs_serial.specs.Cluster.{Cluster, first_cluster, first_servers}
 use Rattle.fs_serial.specs.Fresh.{IsMade}
 use Rattle.fs_serial.specs.Joined.{with_all_of, with_rows_of}
+use Rattle.fs_serial.specs.Owed.{ends_of}
 use Rattle.fs_serial.specs.Places.{IsHome, PlacesHold}
-use Rattle.fs_serial.specs.Seen.{ClusterHolds, counts_of, reaps_at, with_all, world_of}
-use Rattle.fs_serial.specs.World.{WorldHolds}
+use Rattle.fs_serial.specs.Seen.{counts_of, reaps_at, with_all}
+use Rattle.fs_serial.specs.World.{World, WorldHolds}
 use Rattle.fs_serial.proofs.OneServer.FirstWorld.{first_holds}
 use Rattle.fs_serial.proofs.Places.Joining.{none_entered, one_server}
 use Rattle.fs_serial.proofs.Places.PutRecords.{records_alone}
@@ -141,7 +142,7 @@ module _ (n skew term greatest : ℕ) where
   some_first : (id : List ℕ) → server_of first_map id < length c.servers
   some_first id = subst (λ m. m < length c.servers) (sym (at_first id)) (let more = length-append (first_servers n skew term) (first_server n skew term ∷ []) in omega arith)
 
-  first_places : PlacesHold c
+  pub first_places : PlacesHold c
   first_places = record {
     one = λ id. let q = first_manages n skew term id in omega arith;
     homes = each (IsHome []) (λ k. first_home k skew term);
@@ -156,18 +157,19 @@ module _ (n skew term greatest : ℕ) where
   no_reaps k None e = refl
   no_reaps k (Some s) e = ap (λ (t : Server). t.reaps) (first_at skew term (suc n) k s e)
 
-  first_view : (k : ℕ) → WorldHolds greatest (world_of (first_server k skew term) c)
-  first_view k = first_holds greatest term (with_all (first_server k skew term) c) (counts_of c.servers) no_row (first_all_of n skew term) refl (λ j. no_reaps j (slice_get c.servers j) refl) (omega arith)
-
-  first_of_some : ClusterHolds skew greatest c
-  first_of_some = record {
-    parts = each (λ s. WorldHolds greatest (world_of s c)) first_view;
-    skewed = each (λ s. s.skew ≡ skew) (λ k. refl);
-    addressed = λ x. record { up = λ m i. absurd i; down = λ m i d. absurd i };
-    places = first_places;
-    handovers = λ f i. absurd i;
+  -- as each server sees it, in the words of the messages alone
+  abbrev pub bare : Server → World
+  bare s = record {
+    server = with_all s c;
+    counts = counts_of c.servers;
+    decided = [];
+    journal = [];
+    replied = λ x. [];
+    ends = λ x. ends_of (c.lines x);
   }
 
-pub first_all : (servers skew term greatest : ℕ) → 1 ≤ servers → ClusterHolds skew greatest (first_cluster servers skew term)
-first_all zero skew term greatest some = absurd (omega arith)
-first_all (suc n) skew term greatest some = first_of_some n skew term greatest
+  first_view : (k : ℕ) → WorldHolds greatest (bare (first_server k skew term))
+  first_view k = first_holds greatest term (with_all (first_server k skew term) c) (counts_of c.servers) no_row (first_all_of n skew term) refl (λ j. no_reaps j (slice_get c.servers j) refl) (omega arith)
+
+  pub bare_holds : (s : Server) → In s c.servers → WorldHolds greatest (bare s)
+  bare_holds = each (λ s. WorldHolds greatest (bare s)) first_view

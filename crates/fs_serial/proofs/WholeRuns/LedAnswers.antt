@@ -6,6 +6,7 @@ use Rattle.fs_ident.specs.declared.actor.Session.{Session}
 use Rattle.fs_ident.proofs.Same.{itself, one_session}
 use Rattle.fs_msg.specs.declared.answer.Answer.{Answer}
 use Rattle.fs_serial.specs.World.{Ends, World, WorldHolds}
+use Rattle.fs_serial.specs.Seen.{ClusterHolds}
 use Rattle.fs_serial.proofs.ClientMessages.Reordered.{reordered, with_first}
 use Rattle.fs_ident.specs.In.{In}
 use Rattle.fs_ident.proofs.Standing.{In-got}
@@ -16,7 +17,6 @@ use Rattle.fs_txn.specs.Leading.{with_ending, without_ending}
 use Rattle.fs_txn.specs.declared.leading.Ending.{Ending}
 use Rattle.fs_txn.proofs.Keys.{txn_itself}
 use Rattle.fs_serial.specs.Cluster.{Cluster}
-use Rattle.fs_serial.specs.Meanwhile.{ClusterStands}
 use Rattle.fs_serial.specs.Owed.{owed_at}
 use Rattle.fs_serial.proofs.DecidedEffects.OwnApart.{one_ending}
 use Rattle.fs_serial.proofs.Transactions.Tables.{in_without_ending, none_stay}
@@ -68,7 +68,7 @@ rotated greatest by (a ∷ back) front w order h =
 -- ## A part is done
 
 -- an ending with these that are awaited stands for the one with its number
-module _ (skew greatest k : ℕ) (c : Cluster) (s : Server) (at : slice_get c.servers k ≡ Some s) (h : ClusterStands skew greatest c)
+module _ (skew greatest k : ℕ) (c : Cluster) (s : Server) (at : slice_get c.servers k ≡ Some s) (h : ClusterHolds skew greatest c)
     (x : Ending) (there : In x s.ending) (awaits : List (ℕ × ℕ)) where
   abbrev by : Session
   by = x.session

@@ -26,9 +26,8 @@ use Rattle.fs_serial.specs.Conclusions.{after_concluded}
 use Rattle.fs_serial.specs.Decided.{WorldStands}
 use Rattle.fs_serial.specs.Exchange.{asked_server}
 use Rattle.fs_serial.specs.Leading.{IsLeading, LedHolds}
-use Rattle.fs_serial.specs.Meanwhile.{ClusterStands, world_meanwhile}
 use Rattle.fs_serial.specs.Places.{PlacesHold}
-use Rattle.fs_serial.specs.Seen.{IsAddressed}
+use Rattle.fs_serial.specs.Seen.{ClusterHolds, IsAddressed, world_of}
 use Rattle.fs_serial.proofs.ClientMessages.Due.{one_due}
 use Rattle.fs_serial.proofs.DecidedEffects.CommitKeeps.{commit_keeps, own_files}
 use Rattle.fs_serial.proofs.Transactions.Aborted.{abort_stands}
@@ -52,7 +51,7 @@ told_due k txn d asked (x ∷ xs) more h to a (inl e) r =
 told_due k txn d asked (x ∷ xs) more h to a (inr i) r = told_due k txn d asked xs more h to a i r
 
 module _ (skew greatest k : ℕ) (c : Cluster) (s : Server) (l : Leading) (at : slice_get c.servers k ≡ Some s)
-    (h : ClusterStands skew greatest c) (leads : leading_of l.leader.txn s.leading ≡ Some l) (full : is_full l.leader.votes ≡ true)
+    (h : ClusterHolds skew greatest c) (leads : leading_of l.leader.txn s.leading ≡ Some l) (full : is_full l.leader.votes ≡ true)
     (splits : CommitSplits) where
   abbrev then : Cluster
   then = after_concluded k l s c
@@ -74,7 +73,7 @@ module _ (skew greatest k : ℕ) (c : Cluster) (s : Server) (l : Leading) (at : 
 
   -- a transaction commits, or is not carried out
   both : (e : Option LedEnd) → first_end l.leader.votes ≡ e
-      → PlacesHold then × WorldStands greatest (world_meanwhile (concludes l [] s).server then)
+      → PlacesHold then × WorldStands greatest (world_of (concludes l [] s).server then)
   both None none = (
     decision_places k c s at h.places h.led l there (own_files k skew greatest c s at h l there none splits),
     commit_keeps k skew greatest c s at h l there none splits led,
@@ -90,7 +89,7 @@ module _ (skew greatest k : ℕ) (c : Cluster) (s : Server) (l : Leading) (at : 
   pub places : PlacesHold then
   places = (both (first_end l.leader.votes) refl).0
 
-  pub stands : WorldStands greatest (world_meanwhile (concludes l [] s).server then)
+  pub stands : WorldStands greatest (world_of (concludes l [] s).server then)
   stands = (both (first_end l.leader.votes) refl).1
 
   addressed : (x : Session) → IsAddressed (then.lines x)
@@ -103,6 +102,6 @@ module _ (skew greatest k : ℕ) (c : Cluster) (s : Server) (l : Leading) (at : 
       (told_due k l.leader.txn d asked (elsewhere s.me l) (ends_now (elsewhere s.me l) by (end_of_decision d))
       (now_due k by (end_of_decision d) asked its (elsewhere s.me l))) h.addressed
 
-  pub decision_keeps : ClusterStands skew greatest then
+  pub decision_keeps : ClusterHolds skew greatest then
   decision_keeps =
       all_stand skew greatest k c s at h then (concludes l [] s).server refl refl (h.parts s here).0.clock places led stands addressed

@@ -31,10 +31,10 @@ use Rattle.fs_txn.specs.declared.leading.Leading.{Leading}
 use Rattle.fs_txn.proofs.Keys.{txn_is}
 use Rattle.fs_serial.specs.Cluster.{Cluster, IsThere, Lines, without_question}
 use Rattle.fs_serial.specs.Exchange.{IsToBeLed}
-use Rattle.fs_serial.specs.Meanwhile.{ClusterStands}
 use Rattle.fs_serial.specs.Owed.{ends_in, ends_with, owed_at, owed_to, question_of, taken_at, taken_leads}
 use Rattle.fs_serial.specs.World.{Ends}
 use Rattle.fs_serial.specs.World as world
+use Rattle.fs_serial.specs.Seen.{ClusterHolds}
 use Rattle.fs_serial.proofs.Lists.EachAt.{each_alone, each_none, each_same, nothing_of}
 use Rattle.fs_serial.proofs.Lists.Traffic.{messages}
 use Rattle.fs_serial.proofs.Transactions.OneOwner.{some_there}
@@ -56,7 +56,7 @@ owed_same ss k s t at ending y = each_same (owed_at y) ss k s t at
 
 -- ## A transaction of the server has other votes
 
-module _ (k skew greatest : ℕ) (c : Cluster) (s : Server) (at : slice_get c.servers k ≡ Some s) (h : ClusterStands skew greatest c)
+module _ (k skew greatest : ℕ) (c : Cluster) (s : Server) (at : slice_get c.servers k ≡ Some s) (h : ClusterHolds skew greatest c)
     (l : Leading) (there : In l s.leading) (votes : Votes) (places : List ℕ) where
   abbrev d : Decision
   d = decision l.leader None
@@ -129,7 +129,7 @@ module _ (k skew greatest : ℕ) (c : Cluster) (s : Server) (at : slice_get c.se
 
 -- ## A transaction begins
 
-module _ (k skew greatest : ℕ) (c : Cluster) (s : Server) (at : slice_get c.servers k ≡ Some s) (h : ClusterStands skew greatest c)
+module _ (k skew greatest : ℕ) (c : Cluster) (s : Server) (at : slice_get c.servers k ≡ Some s) (h : ClusterHolds skew greatest c)
     (by : Session) (m : ToLead) (comes : IsThere k (FromClient by (Lead m)) c) (new : Leading) (its : new.leader.session ≡ by)
     (txn : new.leader.txn ≡ txn_of s) (t : Server) (leads : t.leading ≡ with_leading new s.leading) (ending : t.ending ≡ s.ending) where
   abbrev e : ServerEvent

@@ -34,12 +34,11 @@ use Rattle.fs_txn.specs.Votes.{is_full}
 use Rattle.fs_txn.specs.declared.leading.Leading.{Leading}
 use Rattle.fs_txn.specs.declared.ready.Ready.{Ready}
 use Rattle.fs_txn.proofs.Keys.{txn_itself}
-use Rattle.fs_serial.specs.Cluster.{Cluster, InFlight, IsThere, Lines, after_step, in_flight_from}
+use Rattle.fs_serial.specs.Cluster.{Cluster, InFlight, IsThere, Lines, after_step, in_flight_from, with_items}
 use Rattle.fs_serial.specs.Cluster.{is_between, with_answer, with_sent, without_arrived, without_first, without_question}
-use Rattle.fs_serial.specs.Conclusions.{after_concluded, with_items}
-use Rattle.fs_serial.specs.LaterSteps.{TellsItems, after_step_later}
+use Rattle.fs_serial.specs.Conclusions.{TellsItems, after_concluded}
 use Rattle.fs_serial.specs.Leading.{LedHolds}
-use Rattle.fs_serial.specs.Meanwhile.{ClusterStands}
+use Rattle.fs_serial.specs.Seen.{ClusterHolds}
 use Rattle.fs_serial.proofs.DecidedEffects.DecideSeen.{decide_stands}
 use Rattle.fs_serial.proofs.Transactions.SeenMeanwhile.{ends_same}
 use Rattle.fs_serial.proofs.Lists.SetAt.{In_without, get_here, set_twice}
@@ -87,7 +86,7 @@ module _ (skew greatest k : ℕ) (c : Cluster) (s : Server) (at : slice_get c.se
     first = waits n l sent t
 
     abbrev behind : Cluster
-    behind = after_step_later k e first c
+    behind = after_step k e first c
 
     abbrev last : Stepped
     last = concludes l [] first.server
@@ -98,7 +97,7 @@ module _ (skew greatest k : ℕ) (c : Cluster) (s : Server) (at : slice_get c.se
     same_server : last.server ≡ both.server
     same_server = ap (λ (ls : List Leading). let z : Server = record (both.server) { leading = ls } in z) (left_again l t.leading)
 
-    same_cluster : after_concluded k l first.server behind ≡ after_step_later k e both c
+    same_cluster : after_concluded k l first.server behind ≡ after_step k e both c
     same_cluster = alike
         (set_twice c.servers k first.server last.server ∙ ap (slice_set c.servers k) same_server)
         (append_assoc (without_arrived k e c.in_flight) (in_flight_from k sent) (in_flight_from k last.out.send)
@@ -119,12 +118,12 @@ module _ (skew greatest k : ℕ) (c : Cluster) (s : Server) (at : slice_get c.se
             ∙ ap (λ x. cluster b.servers b.in_flight b.journal x a.lines) rs
             ∙ ap (λ x. cluster b.servers b.in_flight b.journal b.replied x) ls
 
-    pub goes_on_keeps : ClusterStands skew greatest behind → ClusterStands skew greatest (after_step_later k e (goes_on n l sent t) c)
+    pub goes_on_keeps : ClusterHolds skew greatest behind → ClusterHolds skew greatest (after_step k e (goes_on n l sent t) c)
     goes_on_keeps h = by (is_full l.leader.votes) refl
       where
-        by : (b : Bool) → is_full l.leader.votes ≡ b → ClusterStands skew greatest (after_step_later k e (cond b both first) c)
+        by : (b : Bool) → is_full l.leader.votes ≡ b → ClusterHolds skew greatest (after_step k e (cond b both first) c)
         by true full =
-            subst (ClusterStands skew greatest) same_cluster
+            subst (ClusterHolds skew greatest) same_cluster
             (decision_keeps skew greatest k behind first.server l (get_here c.servers k s first.server at) h
             (leading_set l t.leading) full splits)
         by false full = h
@@ -166,7 +165,7 @@ voted_leading (vote.Ended l u n) x s = refl
 voted_leading (vote.Moved p to) x s = refl
 voted_leading (vote.PathsOut n) x s = refl
 
-module _ (skew greatest k : ℕ) (c : Cluster) (s : Server) (at : slice_get c.servers k ≡ Some s) (h : ClusterStands skew greatest c) where
+module _ (skew greatest k : ℕ) (c : Cluster) (s : Server) (at : slice_get c.servers k ≡ Some s) (h : ClusterHolds skew greatest c) where
   here : In s c.servers
   here = In-got c.servers k s at
 
@@ -174,7 +173,7 @@ module _ (skew greatest k : ℕ) (c : Cluster) (s : Server) (at : slice_get c.se
   me = h.places.numbered k s at
 
   pub prepare_event : (from : ℕ) (m : PrepareMsg) → IsThere k (event.FromPeer from (peer.Prepare m)) c
-      → ClusterStands skew greatest (after_step k (event.FromPeer from (peer.Prepare m)) (prepare_step from m s) c)
+      → ClusterHolds skew greatest (after_step k (event.FromPeer from (peer.Prepare m)) (prepare_step from m s) c)
   prepare_event from m comes =
       let v : Vote = vote_here s m.session m.part in
       let x : Ready = ready_of m in
@@ -185,7 +184,7 @@ module _ (skew greatest k : ℕ) (c : Cluster) (s : Server) (at : slice_get c.se
       let answer : PeerMsg = peer.Vote (record { txn = m.txn; number = m.number; vote = v }) in
       let ms : List (Peer × Msg) = to_server from answer ∷ [] in
       let same = prepare_awaited k from c s at h.led m comes in
-      subst (λ z. ClusterStands skew greatest (after_step k (event.FromPeer from (peer.Prepare m)) z c)) (sym same)
+      subst (λ z. ClusterHolds skew greatest (after_step k (event.FromPeer from (peer.Prepare m)) z c)) (sym same)
       (quiet_stands skew greatest k c s t at h left ms c.lines (record {
         rows = voted_rows v x s;
         parcels = word_taken is c.in_flight f comes refl;
@@ -205,12 +204,12 @@ module _ (skew greatest k : ℕ) (c : Cluster) (s : Server) (at : slice_get c.se
       ((all_keep_led skew greatest k c s at h).prepared from m comes)))
 
   pub decide_event : (from : ℕ) (m : DecideMsg) → IsThere k (event.FromPeer from (peer.Decide m)) c
-      → ClusterStands skew greatest (after_step k (event.FromPeer from (peer.Decide m)) (decide_step from m s) c)
+      → ClusterHolds skew greatest (after_step k (event.FromPeer from (peer.Decide m)) (decide_step from m s) c)
   decide_event from m comes =
       let same = decide_awaited k from c s at h.led m comes in
       let led = subst (λ z. LedHolds (after_step k (event.FromPeer from (peer.Decide m)) z c)) same
       ((all_keep_led skew greatest k c s at h).decided from m comes) in
-      subst (λ z. ClusterStands skew greatest (after_step k (event.FromPeer from (peer.Decide m)) z c)) (sym same)
+      subst (λ z. ClusterHolds skew greatest (after_step k (event.FromPeer from (peer.Decide m)) z c)) (sym same)
       (all_stand skew greatest k c s at h (after_step k (event.FromPeer from (peer.Decide m)) (applies from m s) c)
       (after_decision m s) refl refl (h.parts s here).0.clock (decided_places k c s at h.places h.led from m comes) led
       (decide_stands k from skew greatest c s at h m comes led) h.addressed)

@@ -43,8 +43,8 @@ use Rattle.fs_serial.specs.Cluster.{Cluster, IsThere, after_step, is_with}
 use Rattle.fs_serial.specs.Conclusions.{after_concluded}
 use Rattle.fs_serial.specs.Exchange.{IsQuestion, IsToBeLed, OneExchange, asked_server, server_of_question}
 use Rattle.fs_serial.specs.Leading.{IsLeading, IsLedBy, LedHolds}
-use Rattle.fs_serial.specs.Meanwhile.{ClusterStands}
 use Rattle.fs_serial.specs.Owed.{ends_in}
+use Rattle.fs_serial.specs.Seen.{ClusterHolds}
 use Rattle.fs_serial.proofs.DecidedEffects.ConcludedTold.{concluded_few, told_new}
 use Rattle.fs_serial.proofs.DecidedEffects.OwnApart.{one_each}
 use Rattle.fs_serial.proofs.Transactions.AwaitedWords.{decide_awaited, prepare_awaited}
@@ -118,7 +118,7 @@ is_leads c (Some x) k m up down e (inl h) to = by x (subst (IsQuestion x) is h.q
     by (Releases n numbers) q e = absurd q
     by (Ships n count) q e = absurd q
 
-module _ (skew greatest k : ℕ) (c : Cluster) (s : Server) (at : slice_get c.servers k ≡ Some s) (h : ClusterStands skew greatest c) where
+module _ (skew greatest k : ℕ) (c : Cluster) (s : Server) (at : slice_get c.servers k ≡ Some s) (h : ClusterHolds skew greatest c) where
   here : In s c.servers
   here = In-got c.servers k s at
 

@@ -10,16 +10,15 @@ use Rattle.fs_field.specs.declared.row.Row.{Row}
 use Rattle.fs_field.specs.declared.used.Part.{Part}
 use Rattle.fs_map.specs.Map.{server_of}
 use Rattle.fs_msg.specs.declared.client_msg.ClientMsg.TheVariants.{Lead}
-use Rattle.fs_msg.specs.declared.item.Item.{Item}
 use Rattle.fs_msg.specs.declared.lead.Lead.{Lead as ToLead}
 use Rattle.fs_msg.specs.declared.msg.Msg.{Msg}
 use Rattle.fs_msg.specs.declared.server_note.ServerNote.TheVariants as note
 use Rattle.fs_record.specs.declared.led_end.Why.{Why}
-use Rattle.fs_server.specs.Begins.{Round, begins, first_round, leader_with, part_round, parts_in, round_of, rounds, txn_of}
+use Rattle.fs_server.specs.Begins.{Round, first_round, leader_with, part_round, parts_in, round_of, rounds, txn_of}
 use Rattle.fs_server.specs.Counts.{ask_for}
 use Rattle.fs_server.specs.Follows.{to_server, vote_here}
 use Rattle.fs_server.specs.LeadingLaws.{CommitSplits}
-use Rattle.fs_server.specs.Leads.{lead_refusal, refuses}
+use Rattle.fs_server.specs.Leads.{lead_refusal, refuses, leads_unless, is_led}
 use Rattle.fs_server.specs.Concludes.{waits}
 use Rattle.fs_server.specs.Server.{Stepped, is_mine}
 use Rattle.fs_server.specs.declared.event.ServerEvent.{ServerEvent}
@@ -27,14 +26,15 @@ use Rattle.fs_server.specs.declared.event.ServerEvent.TheVariants as event
 use Rattle.fs_server.specs.declared.state.Server.{Server}
 use Rattle.fs_txn.specs.Leading.{with_leading}
 use Rattle.fs_txn.specs.declared.leading.Leading.{Leading}
+use Rattle.fs_serial.proofs.LedOperations.LedSteps.{led_stands, to_lead}
+use Rattle.fs_serial.proofs.Transactions.SeenMeanwhile.{asked_up}
+use Rattle.fs_serial.proofs.Transactions.StandsAfter.{ones, view}
 use Rattle.fs_serial.specs.Cluster.{Cluster, InFlight, IsThere, after_step, in_flight_from, parcels_of, with_sent, without_question}
-use Rattle.fs_serial.specs.LaterSteps.{after_step_later}
-use Rattle.fs_serial.specs.Leading.{LedHolds}
-use Rattle.fs_serial.specs.Meanwhile.{ClusterStands}
-use Rattle.fs_serial.specs.Owed.{ends_with}
-use Rattle.fs_serial.specs.Seen.{IsAddressed}
+use Rattle.fs_serial.specs.Decided.{WorldStands}
+use Rattle.fs_serial.specs.Led.{LedStands}
+use Rattle.fs_serial.specs.Owed.{ends_with, ends_in}
+use Rattle.fs_serial.specs.Seen.{ClusterHolds, IsAddressed, world_of}
 use Rattle.fs_serial.specs.Words.{decided_among, decided_by}
-use Rattle.fs_serial.proofs.LedOperations.LeadEvents.{none_more}
 use Rattle.fs_serial.proofs.Moves.Parcels.{parcels-append}
 use Rattle.fs_serial.proofs.Transactions.PlacesAfter.{AreRelocked, AreWords, both_words, no_words}
 use Rattle.fs_serial.proofs.Transactions.PlacesAfter.{one_word, relocked_not, relocked_then, voted_so}
@@ -46,6 +46,12 @@ use Rattle.fs_serial.proofs.WholeRuns.LedEnds.{asked_then}
 use Rattle.fs_serial.proofs.WholeRuns.LedEvents.{goes_on_keeps}
 use Rattle.fs_serial.proofs.WholeRuns.LedKept.{all_keep_led}
 use Rattle.fs_serial.proofs.WholeRuns.LedWorlds.{quiet_stands}
+use Rattle.fs_serial.specs.World.{World, settled_at, sight_in}
+use Rattle.fs_model.specs.declared.op.Op.{Op}
+use Rattle.fs_model.specs.declared.op.Op.TheVariants as op
+use Rattle.fs_model.specs.declared.reply.Reply.{Reply}
+use Rattle.fs_client.specs.Led as client
+use Rattle.fs_client.specs.declared.led.Led.{Led}
 
 -- ## What the rounds send
 
@@ -92,19 +98,26 @@ rounds_relock txn number by (p ∷ ps) r rows q = rounds_relock txn (number + 1)
 
 -- ## The question
 
--- what the server makes of it: it leads the operation, or puts it off
-abbrev pub leads_or_refuses : Option Why → Session → ToLead → Server → Stepped
-leads_or_refuses None by m s = begins by m s
-leads_or_refuses (Some w) by m s = refuses by w s
+-- a server leads what a client asks it to
+asked_as : (o : Op) (r : Reply) → client.is_led o r ≡ true → is_led o ≡ true
+asked_as (op.Delete dir name) r h = refl
+asked_as (op.Rename sdir sname ddir dname) r h = refl
+asked_as o r h = absurd (cc)
 
-module _ (skew greatest k : ℕ) (c : Cluster) (s : Server) (at : slice_get c.servers k ≡ Some s) (h : ClusterStands skew greatest c)
+module _ (skew greatest k : ℕ) (c : Cluster) (s : Server) (at : slice_get c.servers k ≡ Some s) (h : ClusterHolds skew greatest c)
     (splits : CommitSplits) (by : Session) (m : ToLead) (comes : IsThere k (event.FromClient by (Lead m)) c) where
   abbrev e : ServerEvent
   e = event.FromClient by (Lead m)
 
-  -- nothing is admitted
-  abbrev with_replied : Stepped → (Session → List Item) → Cluster
-  with_replied x replied = record (after_step k e x c) { replied = replied }
+  -- what is asked for is a delete or a rename
+  pub led_there : is_led m.op ≡ true
+  led_there =
+      let w : World = world_of s c in
+      let now : WorldStands greatest w = view skew greatest k c s at h in
+      let up : (ends_in c by).up ≡ Lead m ∷ [] = asked_up k by (Lead m) c.servers c.lines comes (ones skew greatest k c s at h by) in
+      let l : Led = (to_lead greatest w by m up now.0).led in
+      let stands : LedStands s.skew greatest (sight_in w) by (settled_at by (w.ends by)) l = led_stands greatest w by m up now.0 in
+      ap (λ (n : ToLead). is_led n.op) (to_lead greatest w by m up now.0).told ∙ asked_as l.entry.op l.entry.reply stands.leads
 
   abbrev r : Round
   r = round_of by m s
@@ -125,7 +138,7 @@ module _ (skew greatest k : ℕ) (c : Cluster) (s : Server) (at : slice_get c.se
   still : with_sent k r.send (without_question k e c.lines) ≡ without_question k e c.lines
   still = rounds_lines k (txn_of s) 0 by (parts_in m) (first_round s) (without_question k e c.lines) refl
 
-  begun : lead_refusal s m ≡ None → ClusterStands skew greatest (after_step_later k e first c)
+  begun : lead_refusal s m ≡ None → ClusterHolds skew greatest (after_step k e first c)
   begun accepted =
       quiet_stands skew greatest k c s first.server at h c.in_flight r.send (with_sent k r.send (without_question k e c.lines)) (record {
         rows = record {
@@ -150,19 +163,16 @@ module _ (skew greatest k : ℕ) (c : Cluster) (s : Server) (at : slice_get c.se
             (ap (λ (z : Server). with_leading new z.leading) left) (ap (λ (z : Server). z.ending) left) y;
         addressed = subst (λ ls. (x : Session) → IsAddressed (ls x)) (sym still) (taken_addressed k e c.lines h.addressed);
       })
-      (subst (λ replied. LedHolds (with_replied first replied)) (none_more by c.replied)
-      ((all_keep_led skew greatest k c s at h).begun by m comes accepted))
+      ((all_keep_led skew greatest k c s at h).begun by m comes accepted)
 
-  refused : (w : Why) → ClusterStands skew greatest (after_step_later k e (refuses by w s) c)
-  refused w =
-      subst (λ replied. ClusterStands skew greatest (with_replied (refuses by w s) replied)) (none_more by c.replied)
-      (put_off_keeps skew greatest k c s at h by m comes w)
+  refused : (w : Why) → ClusterHolds skew greatest (after_step k e (refuses by w s) c)
+  refused w = put_off_keeps skew greatest k c s at h by m comes w
 
-  pub lead_event : ClusterStands skew greatest (after_step_later k e (leads_or_refuses (lead_refusal s m) by m s) c)
+  pub lead_event : ClusterHolds skew greatest (after_step k e (leads_unless (lead_refusal s m) by m s) c)
   lead_event = by_refusal (lead_refusal s m) refl
     where
       by_refusal : (o : Option Why) → lead_refusal s m ≡ o
-          → ClusterStands skew greatest (after_step_later k e (leads_or_refuses o by m s) c)
+          → ClusterHolds skew greatest (after_step k e (leads_unless o by m s) c)
       by_refusal None accepted =
           goes_on_keeps skew greatest k c s at e (λ items replied. refl) splits (note.Prepares (txn_of s)) new r.send
           r.server (begun accepted)

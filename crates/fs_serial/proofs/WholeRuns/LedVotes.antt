@@ -30,12 +30,10 @@ use Rattle.fs_txn.specs.Votes.{Votes, is_moved, votes_after}
 use Rattle.fs_txn.specs.declared.leading.Leading.{Leading}
 use Rattle.fs_serial.specs.Cluster.{Cluster, InFlight, IsThere, after_step}
 use Rattle.fs_serial.specs.Cluster.{in_flight_from, is_between, parcels_of, with_sent, without_first}
-use Rattle.fs_serial.specs.LaterSteps.{after_step_later}
 use Rattle.fs_serial.specs.Leading.{LedHolds}
-use Rattle.fs_serial.specs.Meanwhile.{ClusterStands}
 use Rattle.fs_serial.specs.Owed.{ends_with}
 use Rattle.fs_serial.specs.Places.{VoteNames}
-use Rattle.fs_serial.specs.Seen.{IsAddressed}
+use Rattle.fs_serial.specs.Seen.{ClusterHolds, IsAddressed}
 use Rattle.fs_serial.specs.Words.{decided_among}
 use Rattle.fs_serial.proofs.Lists.SetAt.{In_without}
 use Rattle.fs_serial.proofs.Transactions.AwaitedWords.{IsAwaited, vote_awaited, vote_is}
@@ -45,7 +43,7 @@ use Rattle.fs_serial.proofs.WholeRuns.LedEvents.{goes_on_keeps}
 use Rattle.fs_serial.proofs.WholeRuns.LedKept.{all_keep_led}
 use Rattle.fs_serial.proofs.WholeRuns.LedWorlds.{quiet_stands, undecided_taken}
 
-module _ (skew greatest k : ℕ) (c : Cluster) (s : Server) (at : slice_get c.servers k ≡ Some s) (h : ClusterStands skew greatest c)
+module _ (skew greatest k : ℕ) (c : Cluster) (s : Server) (at : slice_get c.servers k ≡ Some s) (h : ClusterHolds skew greatest c)
     (splits : CommitSplits) (from : ℕ) (m : VotedMsg) (comes : IsThere k (event.FromPeer from (peer.Vote m)) c) where
   abbrev e : ServerEvent
   e = event.FromPeer from (peer.Vote m)
@@ -73,7 +71,7 @@ module _ (skew greatest k : ℕ) (c : Cluster) (s : Server) (at : slice_get c.se
     t = record s { rows = rows; leading = with_leading new s.leading }
 
     waits_stands : LedHolds (after_step k e (waits n new ms (record s { rows = rows })) c)
-        → ClusterStands skew greatest (after_step k e (waits n new ms (record s { rows = rows })) c)
+        → ClusterHolds skew greatest (after_step k e (waits n new ms (record s { rows = rows })) c)
     waits_stands led =
         quiet_stands skew greatest k c s t at h (without_first (is_between from k) c.in_flight) ms (with_sent k ms c.lines) (record {
           rows = record {
@@ -99,7 +97,7 @@ module _ (skew greatest k : ℕ) (c : Cluster) (s : Server) (at : slice_get c.se
         }) led
 
   -- a vote that is no move is counted
-  counted : is_moved m.vote ≡ false → ClusterStands skew greatest (after_step_later k e (counts m.number m.vote l s) c)
+  counted : is_moved m.vote ≡ false → ClusterHolds skew greatest (after_step k e (counts m.number m.vote l s) c)
   counted stays =
       goes_on_keeps skew greatest k c s at e (λ items replied. refl) splits (note.Waits l.leader.txn) (with_vote m.number m.vote l) [] s
       (waits_stands (votes_after l.leader.votes m.number m.vote) l.at s.rows (relocked_not s.rows) (note.Waits l.leader.txn) []
@@ -108,7 +106,7 @@ module _ (skew greatest k : ℕ) (c : Cluster) (s : Server) (at : slice_get c.se
 
   module _ (p : Part) (part : slice_get l.leader.parts m.number ≡ Some p) (moved : is_moved m.vote ≡ true) where
     sought : (to : ℕ) → (to == s.me) ≡ false → to < length c.servers
-        → ClusterStands skew greatest (after_step_later k e (seeks m.number to p l s) c)
+        → ClusterHolds skew greatest (after_step k e (seeks m.number to p l s) c)
     sought to off below =
         waits_stands l.leader.votes (slice_set l.at m.number to) s.rows (relocked_not s.rows) (note.Seeks l.leader.txn to)
         (to_server to (ask_for l.leader.txn m.number l.leader.session p) ∷ [])
@@ -117,7 +115,7 @@ module _ (skew greatest k : ℕ) (c : Cluster) (s : Server) (at : slice_get c.se
         ((all_keep_led skew greatest k c s at h).sought from m comes l p to q.led q.awaited moved part off)
 
     own : is_mine s p.file ≡ true
-        → ClusterStands skew greatest (after_step_later k e (counts_own m.number p (vote_here s l.leader.session p) l s) c)
+        → ClusterHolds skew greatest (after_step k e (counts_own m.number p (vote_here s l.leader.session p) l s) c)
     own mine =
         let v : Vote = vote_here s l.leader.session p in
         goes_on_keeps skew greatest k c s at e (λ items replied. refl) splits (note.Waits l.leader.txn)
@@ -127,28 +125,28 @@ module _ (skew greatest k : ℕ) (c : Cluster) (s : Server) (at : slice_get c.se
         (no_words (length c.servers)) refl (λ ss. refl) refl
         ((all_keep_led skew greatest k c s at h).own from m comes l p (note.Waits l.leader.txn) q.led q.awaited moved part mine))
 
-    home : (b : Bool) → is_mine s p.file ≡ b → ClusterStands skew greatest (after_step_later k e
+    home : (b : Bool) → is_mine s p.file ≡ b → ClusterHolds skew greatest (after_step k e
         (cond b (counts_own m.number p (vote_here s l.leader.session p) l s) (seeks m.number (server_of s.map p.file) p l s)) c)
     home true mine = own mine
     home false off = sought (server_of s.map p.file) off (h.places.named s here p.file)
 
     sent : (to : ℕ) → to < length c.servers → (b : Bool) → (to == s.me) ≡ b
-        → ClusterStands skew greatest (after_step_later k e (cond b (comes_home m.number p l s) (seeks m.number to p l s)) c)
+        → ClusterHolds skew greatest (after_step k e (cond b (comes_home m.number p l s) (seeks m.number to p l s)) c)
     sent to below true is = home (is_mine s p.file) refl
     sent to below false off = sought to off below
 
-  by_vote : (v : Vote) → m.vote ≡ v → ClusterStands skew greatest (after_step_later k e (voted m.number v l s) c)
+  by_vote : (v : Vote) → m.vote ≡ v → ClusterHolds skew greatest (after_step k e (voted m.number v l s) c)
   by_vote vote.Yes is =
-      subst (λ v. ClusterStands skew greatest (after_step_later k e (counts m.number v l s) c)) is (counted (ap is_moved is))
+      subst (λ v. ClusterHolds skew greatest (after_step k e (counts m.number v l s) c)) is (counted (ap is_moved is))
   by_vote (vote.Ended a b d) is =
-      subst (λ v. ClusterStands skew greatest (after_step_later k e (counts m.number v l s) c)) is (counted (ap is_moved is))
+      subst (λ v. ClusterHolds skew greatest (after_step k e (counts m.number v l s) c)) is (counted (ap is_moved is))
   by_vote (vote.PathsOut n) is =
-      subst (λ v. ClusterStands skew greatest (after_step_later k e (counts m.number v l s) c)) is (counted (ap is_moved is))
+      subst (λ v. ClusterHolds skew greatest (after_step k e (counts m.number v l s) c)) is (counted (ap is_moved is))
   by_vote (vote.Moved prefix to) is =
       let names : VoteNames (length c.servers) m.vote = (h.places.goes f (found (is_between from k) c.in_flight f comes).0).names in
-      subst (λ o. ClusterStands skew greatest (after_step_later k e (sent_on m.number to o l s) c)) (sym q.part)
+      subst (λ o. ClusterHolds skew greatest (after_step k e (sent_on m.number to o l s) c)) (sym q.part)
       (sent q.wanted q.part (ap is_moved is) to (subst (VoteNames (length c.servers)) is names) (to == s.me) refl)
 
-  pub vote_event : ClusterStands skew greatest (after_step_later k e (vote_step m s) c)
+  pub vote_event : ClusterHolds skew greatest (after_step k e (vote_step m s) c)
   vote_event =
-      subst (λ x. ClusterStands skew greatest (after_step_later k e x c)) (sym (vote_is k from c s at h.led m q)) (by_vote m.vote refl)
+      subst (λ x. ClusterHolds skew greatest (after_step k e x c)) (sym (vote_is k from c s at h.led m q)) (by_vote m.vote refl)

@@ -22,16 +22,16 @@ use Rattle.fs_serial.specs.Exchange.{due}
 use Rattle.fs_serial.specs.Joined.{records_of_all, rows_of_all, with_parcels}
 use Rattle.fs_serial.specs.Leading.{LedHolds}
 use Rattle.fs_serial.specs.Locks.{at_home}
-use Rattle.fs_serial.specs.Meanwhile.{ClusterStands, held_meanwhile, world_meanwhile}
 use Rattle.fs_serial.specs.Owed.{ends_in}
 use Rattle.fs_serial.specs.Places.{PlacesHold}
 use Rattle.fs_serial.specs.Refusals.{rows_in}
-use Rattle.fs_serial.specs.Seen.{IsAddressed, given_at, reaps_at}
+use Rattle.fs_serial.specs.Seen.{ClusterHolds, IsAddressed, given_at, reaps_at, world_of}
 use Rattle.fs_serial.specs.Sight.{count_with}
 use Rattle.fs_serial.specs.Words.{decided_among, decided_by, decided_in}
 use Rattle.fs_serial.specs.World.{Ends, World, WorldHolds}
 use Rattle.fs_serial.proofs.DecidedEffects.DecideSeen.{StaysDecided, fits_again}
 use Rattle.fs_serial.proofs.DecidedEffects.GuardsAgain.{all_put}
+use Rattle.fs_serial.proofs.DecidedEffects.HeldSeen.{held_seen}
 use Rattle.fs_serial.proofs.DecidedEffects.RelockedWorld.{relocked_holds, with_locks}
 use Rattle.fs_serial.proofs.DecidedEffects.ToldParts.{IsPutIn}
 use Rattle.fs_serial.proofs.Lists.Traffic.{IsTaken, taken_first}
@@ -58,13 +58,13 @@ pub record OnlyRelocks (k : ℕ) (s t : Server) (c after : Cluster) : Type 0 whe
   pub journal : after.journal ≡ c.journal
   pub replied : after.replied ≡ c.replied
 
-module _ (skew greatest k : ℕ) (c : Cluster) (s t : Server) (at : slice_get c.servers k ≡ Some s) (h : ClusterStands skew greatest c)
+module _ (skew greatest k : ℕ) (c : Cluster) (s t : Server) (at : slice_get c.servers k ≡ Some s) (h : ClusterHolds skew greatest c)
     (after : Cluster) (q : OnlyRelocks k s t c after) where
   here : In s c.servers
   here = In-got c.servers k s at
 
   abbrev w : World
-  w = world_meanwhile s c
+  w = world_of s c
 
   view : WorldStands greatest w
   view = h.parts s here
@@ -85,16 +85,16 @@ module _ (skew greatest k : ℕ) (c : Cluster) (s t : Server) (at : slice_get c.
       ap₂ (λ ss ps. records_of_all ss ps) q.servers q.parcels
       ∙ ap (with_parcels (parcels_of c.in_flight)) (same_records c.servers k s t empty at q.records)
 
-  held_then : held_meanwhile after ≡ held_meanwhile c
+  held_then : held_seen after ≡ held_seen c
   held_then = ap₂ (λ (ds : List Decided) (m : RecordMap). held_with (effects_in ds) m) q.decided records_then
 
   module _ (holds : WorldHolds greatest (record w { ends = ends_in after })) where
     clock : t.last ≤ greatest
     clock = subst (λ n. n ≤ greatest) (sym q.last) view.0.clock
 
-    world_holds : WorldHolds greatest (world_meanwhile t after)
+    world_holds : WorldHolds greatest (world_of t after)
     world_holds =
-        alike_holds greatest (with_locks relock (record w { ends = ends_in after })) (world_meanwhile t after) (record {
+        alike_holds greatest (with_locks relock (record w { ends = ends_in after })) (world_of t after) (record {
           rows = rows_then;
           records = held_then;
           skew = q.skew;
@@ -123,7 +123,7 @@ module _ (skew greatest k : ℕ) (c : Cluster) (s t : Server) (at : slice_get c.
             owed = λ none. view.1.owed d j (silent d.by none);
           }
 
-      pub relocked_stands : PlacesHold after → ((x : Session) → IsAddressed (after.lines x)) → ClusterStands skew greatest after
+      pub relocked_stands : PlacesHold after → ((x : Session) → IsAddressed (after.lines x)) → ClusterHolds skew greatest after
       relocked_stands places addressed =
           all_stand skew greatest k c s at h after t q.servers q.skew clock places led
           (world_holds, fits_again after t led (subst AreRecords (sym records_then) view.1.all.records) stays) addressed
@@ -154,7 +154,7 @@ pub record OnlyRows (s t : Server) : Type 0 where
   pub ending : t.ending ≡ s.ending
   pub rows : AreRelocked s.rows t.rows
 
-module _ (skew greatest k : ℕ) (c : Cluster) (s t : Server) (at : slice_get c.servers k ≡ Some s) (h : ClusterStands skew greatest c)
+module _ (skew greatest k : ℕ) (c : Cluster) (s t : Server) (at : slice_get c.servers k ≡ Some s) (h : ClusterHolds skew greatest c)
     (left : List InFlight) (ms : List (Peer × Msg)) (lines : Session → Lines) where
   -- all after it
   abbrev pub quietly : Cluster
@@ -211,10 +211,10 @@ module _ (skew greatest k : ℕ) (c : Cluster) (s t : Server) (at : slice_get c.
       replied = refl;
     }
 
-    pub quiet_stands : LedHolds quietly → ClusterStands skew greatest quietly
+    pub quiet_stands : LedHolds quietly → ClusterHolds skew greatest quietly
     quiet_stands led =
         relocked_stands skew greatest k c s t at h quietly changes
-        (subst (λ es. WorldHolds greatest (record (world_meanwhile s c) { ends = es })) (sym (fun_ext q.ends))
+        (subst (λ es. WorldHolds greatest (record (world_of s c) { ends = es })) (sym (fun_ext q.ends))
         (h.parts s (In-got c.servers k s at)).0)
         (λ x e. ap (λ (z : Ends). due z.down) (sym (q.ends x)) ∙ e) led
         (places_stepped k c s t at h.places home left ms [] c.replied lines q.parcels q.among q.words) q.addressed

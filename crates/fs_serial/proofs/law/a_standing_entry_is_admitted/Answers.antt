@@ -1,4 +1,5 @@
-use Rattle.fs_serial.proofs.Admission.Admitted.{admitted_always, admitted_at_once}
+use Rattle.fs_serial.proofs.Admission.Admitted.{admitted_at_once}
+use Rattle.fs_serial.proofs.WholeRuns.ClusterRuns.{admitted_always}
 use Rattle.fs_serial.proofs.law.a_standing_entry_is_admitted.Goals as goal
 
 pub returns-clause-plain : goal.returns-clause-plain

@@ -20,10 +20,9 @@ use Rattle.fs_server.specs.declared.out.ServerOut.{ServerOut}
 use Rattle.fs_server.specs.declared.state.Server.{Server}
 use Rattle.fs_server.proofs.OneByOne.{ships_leave}
 use Rattle.fs_serial.specs.Cluster.{Cluster, IsThere, after_step, is_with}
-use Rattle.fs_serial.specs.Meanwhile.{ClusterStands, world_meanwhile}
 use Rattle.fs_serial.specs.Owed.{ends_in, taken_leads}
 use Rattle.fs_serial.specs.Refusals.{IsFairNote, IsFairStep, rows_in}
-use Rattle.fs_serial.specs.Seen.{with_all}
+use Rattle.fs_serial.specs.Seen.{ClusterHolds, with_all, world_of}
 use Rattle.fs_serial.specs.Words.{decided_in}
 use Rattle.fs_serial.proofs.Admission.Ended.{fair_ship}
 use Rattle.fs_serial.proofs.Lists.SetAt.{get_here, set_twice}
@@ -31,7 +30,7 @@ use Rattle.fs_serial.proofs.Lists.Traffic.{messages}
 use Rattle.fs_serial.proofs.OneServer.SameStep.{IsSameStep, begun_in}
 use Rattle.fs_serial.proofs.Returns.Lapsing.{begun_at}
 use Rattle.fs_serial.proofs.Transactions.OtherSteps.{begins_stands}
-use Rattle.fs_serial.proofs.WholeRuns.RunsMeanwhile.{cluster_later}
+use Rattle.fs_serial.proofs.WholeRuns.ClusterRuns.{cluster_later}
 
 -- a log changes no row
 log_rows : (by : Session) (es : List Entry) (s : Server) → (ship_step by es s).server.rows ≡ s.rows
@@ -43,7 +42,7 @@ log_rows by es s = elim (list_all (λ (e : Entry). tells_its_effects e.op) es) a
 
 -- one that has begun
 begun_fair : (skew greatest k : ℕ) (by : Session) (entries : List Entry) (s : Server) (c : Cluster) → slice_get c.servers k ≡ Some s
-    → greatest ≤ s.last + skew → IsThere k (event.FromClient by (Ship entries)) c → ClusterStands skew greatest c
+    → greatest ≤ s.last + skew → IsThere k (event.FromClient by (Ship entries)) c → ClusterHolds skew greatest c
     → IsFairNote (rows_in (after_step k (event.FromClient by (Ship entries)) (event_step (event.FromClient by (Ship entries)) s) c))
     by s.last entries (event_step (event.FromClient by (Ship entries)) s).out.note
 begun_fair skew greatest k by entries s c at within there h =
@@ -58,14 +57,14 @@ begun_fair skew greatest k by entries s c at within there h =
     begun_in greatest k c s e at h.places (decided_in c) (ends_in c) view.0 view.1 coming tt (λ z. absurd (cc)) in
     let near : greatest ≤ s.last + s.skew = subst (λ n. greatest ≤ s.last + n) (sym (h.skewed s i)) within in
     let fair : IsFairNote (with_all s c).rows by s.last entries (ship_step by entries (with_all s c)).out.note =
-    fair_ship greatest (world_meanwhile s c) by entries coming near view.0 in
+    fair_ship greatest (world_of s c) by entries coming near view.0 in
     let rows : rows_in (after_step k e (event_step e s) c) ≡ (with_all s c).rows =
     sym (ap (λ (t : Server). t.rows) same.server) ∙ log_rows by entries (with_all s c) in
     subst (λ (rs : List Row). IsFairNote rs by s.last entries (event_step e s).out.note) (sym rows)
     (subst (λ (o : ServerOut). IsFairNote (with_all s c).rows by s.last entries o.note) (sym same.out) fair)
 
 pub fair : (skew greatest now k : ℕ) (by : Session) (entries : List Entry) (s : Server) (c : Cluster) → slice_get c.servers k ≡ Some s
-    → greatest ≤ now + skew → IsThere k (event.FromClient by (Ship entries)) c → ClusterStands skew greatest c
+    → greatest ≤ now + skew → IsThere k (event.FromClient by (Ship entries)) c → ClusterHolds skew greatest c
     → IsFairStep now k by entries s c
 fair skew greatest now k by entries s c at within there h =
     let e : ServerEvent = event.FromClient by (Ship entries) in
