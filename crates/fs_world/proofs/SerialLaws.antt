@@ -19,7 +19,9 @@ use Rattle.fs_serial.specs.Cluster.{CanCome, ClientEvent, Cluster, IsThere, Line
 use Rattle.fs_serial.specs.Cluster.ClientEvent.{Hears}
 use Rattle.fs_serial.specs.Exchange.{LeadsTold, OneExchange}
 use Rattle.fs_serial.specs.Refusals.{IsFairStep}
-use Rattle.fs_serial.specs.Seen.{ClusterHolds, IsAddressed, ends_of}
+use Rattle.fs_serial.specs.Leading.{LedHolds}
+use Rattle.fs_serial.specs.Owed.{ends_in}
+use Rattle.fs_serial.specs.Seen.{ClusterHolds, IsAddressed}
 
 pub record SerialLaws : Type 0 where
   -- every event of a server keeps all that holds, and the greatest reading may rise
@@ -39,10 +41,10 @@ pub record SerialLaws : Type 0 where
 -- ## What events keep
 
 -- one question is on its way or its answer, with the server's number, and what a server is asked to lead is led
-pub record AsksOne (l : Lines) : Type 0 where
-  pub one : OneExchange l.client l.client.exchange (ends_of l).up (ends_of l).down
-  pub leads : LeadsTold (ends_of l).up l.client.led
-  pub addressed : IsAddressed l
+pub record AsksOne (c : Cluster) (x : Session) : Type 0 where
+  pub one : OneExchange (c.lines x).client (c.lines x).client.exchange (ends_in c x).up (ends_in c x).down
+  pub leads : LeadsTold (ends_in c x).up (c.lines x).client.led
+  pub addressed : IsAddressed (c.lines x)
 
 -- in some sense of what holds of a cluster where no reading was greater, and of when a client's event with a reading comes in time
 pub record EventLaws : Type 1 where
@@ -56,26 +58,28 @@ pub record EventLaws : Type 1 where
   pub first : (servers skew term greatest : ℕ) → 1 ≤ servers → Holds skew greatest (first_cluster servers skew term)
   -- no server's reading was greater, a session hands in what asks for an access where it opens, and its client is its own
   pub clock : (skew greatest : ℕ) (s : Server) (c : Cluster) → In s c.servers → Holds skew greatest c → s.last ≤ greatest
-  pub asks : (skew greatest : ℕ) (s : Server) (c : Cluster) (by : Session) (entries : List Entry) → In s c.servers → In (Ship entries) (ends_of (c.lines by)).up → Holds skew greatest c → (e : Entry) → In e entries → AsksAccess e.op
+  pub asks : (skew greatest : ℕ) (s : Server) (c : Cluster) (by : Session) (entries : List Entry) → In s c.servers → In (Ship entries) (ends_in c by).up → Holds skew greatest c → (e : Entry) → In e entries → AsksAccess e.op
   pub owned : (skew greatest : ℕ) (s : Server) (c : Cluster) (x : Session) → In s c.servers → Holds skew greatest c → (c.lines x).client.session ≡ x
   -- and asks one question at a time
-  pub exchanges : (skew greatest : ℕ) (s : Server) (c : Cluster) (x : Session) → In s c.servers → Holds skew greatest c → AsksOne (c.lines x)
+  pub exchanges : (skew greatest : ℕ) (s : Server) (c : Cluster) (x : Session) → In s c.servers → Holds skew greatest c → AsksOne c x
+  -- what servers lead is of sessions that wait for it
+  pub led : (skew greatest : ℕ) (c : Cluster) → Holds skew greatest c → LedHolds c
 
 -- of all parts
 pub all_clock : (skew greatest : ℕ) (s : Server) (c : Cluster) → In s c.servers → ClusterHolds skew greatest c → s.last ≤ greatest
-all_clock skew greatest s c i h = (h.parts s i).clock
+all_clock skew greatest s c i h = (h.parts s i).0.clock
 
-pub all_asks : (skew greatest : ℕ) (s : Server) (c : Cluster) (by : Session) (entries : List Entry) → In s c.servers → In (Ship entries) (ends_of (c.lines by)).up → ClusterHolds skew greatest c → (e : Entry) → In e entries → AsksAccess e.op
+pub all_asks : (skew greatest : ℕ) (s : Server) (c : Cluster) (by : Session) (entries : List Entry) → In s c.servers → In (Ship entries) (ends_in c by).up → ClusterHolds skew greatest c → (e : Entry) → In e entries → AsksAccess e.op
 all_asks skew greatest s c by entries i there h e j =
-    let parts = h.parts s i in
+    let parts = (h.parts s i).0 in
     let front = (parts.exchanges by).front entries there in
     ((parts.all.fitting by).entries e (subst (λ es. In e es) (sym front.log) (In-front e entries front.rest j))).access
 
 pub all_owned : (skew greatest : ℕ) (s : Server) (c : Cluster) (x : Session) → In s c.servers → ClusterHolds skew greatest c → (c.lines x).client.session ≡ x
-all_owned skew greatest s c x i h = ((h.parts s i).clients x).session
+all_owned skew greatest s c x i h = ((h.parts s i).0.clients x).session
 
-pub all_exchanges : (skew greatest : ℕ) (s : Server) (c : Cluster) (x : Session) → In s c.servers → ClusterHolds skew greatest c → AsksOne (c.lines x)
-all_exchanges skew greatest s c x i h = let e = (h.parts s i).exchanges x in record { one = e.one; leads = e.leads; addressed = h.addressed x }
+pub all_exchanges : (skew greatest : ℕ) (s : Server) (c : Cluster) (x : Session) → In s c.servers → ClusterHolds skew greatest c → AsksOne c x
+all_exchanges skew greatest s c x i h = let e = (h.parts s i).0.exchanges x in record { one = e.one; leads = e.leads; addressed = h.addressed x }
 
 -- in time is an event where no reading before it is ahead of its own by more than the skew
 abbrev pub timed : SerialLaws → EventLaws
@@ -91,4 +95,5 @@ timed laws = record {
   asks = all_asks;
   owned = all_owned;
   exchanges = all_exchanges;
+  led = λ skew greatest c h. h.led;
 }

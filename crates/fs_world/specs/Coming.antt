@@ -1,5 +1,6 @@
--- What sessions were told of their items: all of them, but for the reply that is on its way of an operation that a server led.
-use Rattle.std.specs.Prelude.{◌≡◌, ℕ, List, [], ◌∷◌, ◌++◌, Option, Some}
+-- What sessions were told of their items: all of them, but for the reply of an operation that a server led, while it is on its way or is
+-- owed until all is done.
+use Rattle.std.specs.Prelude.{◌≡◌, List, [], ◌∷◌, ◌++◌, Option, Some}
 use Rattle.fs_ident.specs.declared.actor.Peer.TheVariants.{Client}
 use Rattle.fs_ident.specs.declared.actor.Session.{Session}
 use Rattle.fs_model.specs.declared.reply.Reply.{Reply}
@@ -8,7 +9,7 @@ use Rattle.fs_msg.specs.declared.answer.Answer.TheVariants.{Led as Ended}
 use Rattle.fs_msg.specs.declared.item.Item.{Item}
 use Rattle.fs_record.specs.declared.led_end.LedEnd.TheVariants as end
 use Rattle.fs_client.specs.declared.led.Led.{Led}
-use Rattle.fs_serial.specs.Cluster.{Lines}
+use Rattle.fs_serial.specs.World.{Ends}
 use Rattle.fs_world.specs.Order.{AreAsTold, ReplyGiven}
 
 -- what is led, as the journal has it
@@ -20,12 +21,12 @@ abbrev pub item_with : Session → Option Led → Answer → List Item
 item_with x (Some l) (Ended (end.Done r)) = led_item x l r ∷ []
 item_with x led a = []
 
-abbrev pub items_with : Session → Option Led → List (ℕ × Answer) → List Item
+abbrev pub items_with : Session → Option Led → List Answer → List Item
 items_with x led [] = []
-items_with x led (m ∷ rest) = item_with x led m.1 ++ items_with x led rest
+items_with x led (a ∷ rest) = item_with x led a ++ items_with x led rest
 
--- these items are what was told, one for one, and then what is on its way
-pub record IsTold (x : Session) (l : Lines) (items : List Item) (all : List ReplyGiven) : Type 0 where
+-- these items are what was told, one for one, and then what is on its way or owed
+pub record IsTold (x : Session) (e : Ends) (items : List Item) (all : List ReplyGiven) : Type 0 where
   pub front : List Item
-  pub split : items ≡ front ++ items_with x l.client.led l.down
+  pub split : items ≡ front ++ items_with x e.client.led e.down
   pub told : AreAsTold front all

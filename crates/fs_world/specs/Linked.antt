@@ -1,13 +1,15 @@
 -- What holds of the links between servers and clients, whatever was lost, repeated or reordered: they carry the very
 -- messages that are on their way, and these can be read.
 use Rattle.std.specs.Prelude.{◌≡◌, ◌≢◌, ℕ, ◌<◌, ◌^◌, ◌≤◌, true, false, List, map, length, slice_get, Option, Some, None}
-use Rattle.std.specs.List.{AllByRecursion}
+use Rattle.std.specs.List.{AllByRecursion, list_all}
 use Rattle.std.specs.FinMap.{get}
 use Rattle.fs_ident.specs.In.{In}
 use Rattle.fs_ident.specs.declared.actor.Peer.{Peer}
 use Rattle.fs_ident.specs.declared.actor.Peer.TheVariants.{Server, Client}
 use Rattle.fs_ident.specs.declared.actor.Session.{Session}
 use Rattle.fs_field.specs.declared.row.Row.{Row}
+use Rattle.fs_field.specs.declared.vote.Vote.{Vote}
+use Rattle.fs_field.specs.declared.vote.Vote.TheVariants as vote
 use Rattle.fs_map.specs.Map.{Owners}
 use Rattle.fs_msg.specs.Ranges.{FitsMessage}
 use Rattle.fs_msg.specs.Readable.{is_readable}
@@ -28,6 +30,8 @@ use Rattle.fs_record.specs.declared.led_end.Why.TheVariants as why
 use Rattle.fs_record.specs.declared.parcel.Parcel.{Parcel}
 use Rattle.fs_serial.specs.declared.in_flight.InFlight.{InFlight}
 use Rattle.fs_server.specs.declared.state.Server.{Server as Core}
+use Rattle.fs_txn.specs.declared.leading.Ending.{Ending}
+use Rattle.fs_txn.specs.declared.leading.Leading.{Leading}
 use Rattle.fs_window.specs.OnTheWay.{Carries, IsPacketOf}
 use Rattle.fs_window.specs.Packet.{IsPacket, packet_text}
 use Rattle.fs_window.specs.Peers.{same_peer}
@@ -35,7 +39,7 @@ use Rattle.fs_window.specs.Post.{AreLinks, Links, link_with, new_link}
 use Rattle.fs_window.specs.declared.link.Link.{Link}
 use Rattle.fs_window.specs.declared.packet.Packet.{Packet}
 use Rattle.fs_window.specs.declared.sent.Sent.{Sent}
-use Rattle.fs_wire.specs.Readable.{is_readable_session}
+use Rattle.fs_wire.specs.Readable.{is_readable_effect, is_readable_session}
 use Rattle.fs_world.specs.Within.{IsInRange}
 pub use Rattle.fs_world.specs.Carried.{AreFirstOf, between, downs_of, flying_between, post_of, state_post, ups_of}
 use Rattle.fs_world.specs.Readable.{HandlesOpen, LogReadable, RecordsOpen}
@@ -45,7 +49,7 @@ use Rattle.fs_world.specs.declared.form.Form.TheVariants as form
 use Rattle.fs_world.specs.declared.servers.session_state.SessionState.{SessionState}
 use Rattle.fs_world.specs.declared.servers.world.Served.{Served}
 use Rattle.fs_msg.specs.declared.peer_msg.PeerMsg.{PeerMsg}
-use Rattle.fs_msg.specs.declared.peer_msg.PeerMsg.TheVariants.{Parcel as OfParcel}
+use Rattle.fs_msg.specs.declared.peer_msg.PeerMsg.TheVariants as peer
 
 -- ## The links of two actors
 
@@ -126,13 +130,33 @@ HasJoined sessions s = (state : SessionState) × (get sessions s.0 ≡ Some stat
 abbrev pub AreOfJoined : SessionStates → List Row → Type 0
 AreOfJoined sessions rows = (row : Row) → In row rows → HasJoined sessions row.session
 
--- a server knows only of servers that there are, has rows of sessions that have joined, and handles that can be told
+-- a vote names only servers that there are
+abbrev pub IsNamedVote : ℕ → Vote → Type 0
+IsNamedVote servers (vote.Moved prefix to) = to < servers
+IsNamedVote servers v = Unit {0}
+
+-- a transaction of which votes are awaited is of a session that has joined; its parts are asked of servers that there are, and its votes
+-- name no others
+pub record IsLeadingOf (servers : ℕ) (sessions : SessionStates) (l : Leading) : Type 0 where
+  pub session : HasJoined sessions l.leader.session
+  pub at : (k : ℕ) → In k l.at → k < servers
+  pub votes : (v : Vote) → In (Some v) l.leader.votes → IsNamedVote servers v
+
+-- so is one that is decided, and its end names no others
+pub record IsEndingOf (servers : ℕ) (sessions : SessionStates) (x : Ending) : Type 0 where
+  pub session : HasJoined sessions x.session
+  pub end : IsNamedLed servers x.end
+
+-- a server knows only of servers that there are, has rows of sessions that have joined and leads operations of such, and its handles can
+-- be told
 pub record IsServed (servers : ℕ) (sessions : SessionStates) (k : ℕ) (s : Core) : Type 0 where
   pub me : s.me ≡ k
   pub named : AreNamed servers s.map
   pub records : AreRecords s.records
   pub handles : HandlesOpen s.records
   pub rows : AreOfJoined sessions s.rows
+  pub leading : (l : Leading) → In l s.leading → IsLeadingOf servers sessions l
+  pub ending : (x : Ending) → In x s.ending → IsEndingOf servers sessions x
 
 -- a session asks servers that there are, and is told of such
 pub record IsSoundState (servers : ℕ) (s : Session) (state : SessionState) : Type 0 where
@@ -149,17 +173,21 @@ pub record IsParcelOf (sessions : SessionStates) (p : Parcel) : Type 0 where
   pub handles : RecordsOpen p.records
   pub rows : AreOfJoined sessions p.rows
 
--- the message hands over such a parcel: what a server leads it has whole
-abbrev pub BringsParcel : SessionStates → PeerMsg → Type 0
-BringsParcel sessions (OfParcel p) = IsParcelOf sessions p
-BringsParcel sessions m = ⊥
+-- what a server is told by another one can be told: such a parcel, or a part of a session that has joined, a vote that names servers that
+-- there are, and effects that can be read
+abbrev pub Brings : ℕ → SessionStates → PeerMsg → Type 0
+Brings servers sessions (peer.Parcel p) = IsParcelOf sessions p
+Brings servers sessions (peer.Prepare m) = HasJoined sessions m.session
+Brings servers sessions (peer.Vote m) = IsNamedVote servers m.vote
+Brings servers sessions (peer.Decide m) = list_all is_readable_effect m.effects ≡ true
+Brings servers sessions (peer.Done m) = Unit {0}
 
--- a message goes from one server to another, and so is the parcel that it brings
+-- a message goes from one server to another, and can be told
 pub record IsCarried (servers : ℕ) (sessions : SessionStates) (f : InFlight) : Type 0 where
   pub from : f.from < servers
   pub to : f.to < servers
   pub apart : f.from ≢ f.to
-  pub parcel : BringsParcel sessions f.message
+  pub brings : Brings servers sessions f.message
 
 pub record IsLinked (w : Served) : Type 0 where
   pub posts : length w.posts ≡ length w.servers

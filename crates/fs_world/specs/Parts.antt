@@ -8,9 +8,10 @@ use Rattle.fs_schedule.specs.declared.event.Head.{Head}
 use Rattle.fs_schedule.specs.declared.event.Head.TheVariants as head
 use Rattle.fs_serial.specs.Cluster.{Cluster, Lines, first_lines}
 use Rattle.fs_serial.specs.Numbers.{all_items}
+use Rattle.fs_serial.specs.Owed.{ends_with}
 use Rattle.fs_serial.specs.Runs.{IsOrderly}
-use Rattle.fs_serial.specs.Seen.{ClusterHolds, ends_of}
-use Rattle.fs_serial.specs.World.{settled_at}
+use Rattle.fs_serial.specs.Seen.{ClusterHolds}
+use Rattle.fs_serial.specs.World.{Ends, settled_at}
 use Rattle.fs_world.specs.Coming.{IsTold}
 use Rattle.fs_world.specs.Order.{ReplyGiven, replies_given, told_to}
 use Rattle.fs_world.specs.Served.{SessionStates}
@@ -33,14 +34,19 @@ abbrev pub seen : (Session → List Item) → Served → Cluster
 seen replied w =
     record { servers = w.servers; in_flight = w.in_flight; journal = w.journal; replied = replied; lines = lines_of w.term w.sessions }
 
+-- the session as one server that has all would see it
+abbrev pub ends_at : Served → Session → Ends
+ends_at w x = ends_with x w.servers (lines_of w.term w.sessions x)
+
 -- what each session was told, as the journal and its client have it: its items, and then its log as that will be
 abbrev pub replied_in : Served → Session → List Item
-replied_in w x = all_items x w.journal (settled_at x (ends_of (lines_of w.term w.sessions x))).log
+replied_in w x = all_items x w.journal (settled_at x (ends_at w x)).log
 
--- where no reading was greater and this was told: all parts of the invariant hold, and those items are what the notes told each session, and what is on its way to it
+-- where no reading was greater and this was told: all parts of the invariant hold, and those items are what the notes told each session,
+-- and what is on its way to it or owed
 pub record ServedHold (skew greatest : ℕ) (told : List ReplyGiven) (w : Served) : Type 0 where
   pub parts : ClusterHolds skew greatest (seen (replied_in w) w)
-  pub replies : (x : Session) → IsTold x (lines_of w.term w.sessions x) (replied_in w x) (told_to x told)
+  pub replies : (x : Session) → IsTold x (ends_at w x) (replied_in w x) (told_to x told)
 
 -- the direct form has no parts
 abbrev pub PartsHold : Head → ℕ → List ReplyGiven → Form → Type 0
