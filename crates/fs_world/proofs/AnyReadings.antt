@@ -38,7 +38,19 @@ anyhow_laws = record {
   clock = λ skew greatest s c i h. all_clock skew greatest s (told_as h.journal h.replied c) i h.holds;
   asks = λ skew greatest s c by entries i there h. all_asks skew greatest s (told_as h.journal h.replied c) by entries i there h.holds;
   owned = λ skew greatest s c x i h. all_owned skew greatest s (told_as h.journal h.replied c) x i h.holds;
-  exchanges = λ skew greatest s c x i h. all_exchanges skew greatest s (told_as h.journal h.replied c) x i h.holds;
+  exchanges = λ skew greatest s c x i h. let q = all_exchanges skew greatest s (told_as h.journal h.replied c) x i h.holds in
+      record { one = q.one; leads = q.leads; addressed = q.addressed };
+  led = λ skew greatest c h. let l = h.holds.led in record {
+    parts = l.parts;
+    stages = l.stages;
+    leading = l.leading;
+    ending = l.ending;
+    ready = l.ready;
+    locks = l.locks;
+    files = l.files;
+    few = l.few;
+    told = l.told;
+  };
 }
 
 -- while these events are to come

@@ -26,46 +26,46 @@ use Rattle.fs_server.specs.declared.event.ServerEvent.TheVariants.{FromClient, F
 use Rattle.fs_world.specs.Coming.{item_with, items_with}
 
 -- where nothing is led, nothing comes
-pub none_comes : (x : Session) (ms : List (ℕ × Answer)) → items_with x None ms ≡ []
+pub none_comes : (x : Session) (ms : List Answer) → items_with x None ms ≡ []
 none_comes x [] = refl
 none_comes x (m ∷ ms) = none_comes x ms
 
-pub more_come : (x : Session) (led : Option Led) (ms more : List (ℕ × Answer)) → items_with x led (ms ++ more) ≡ items_with x led ms ++ items_with x led more
+pub more_come : (x : Session) (led : Option Led) (ms more : List Answer) → items_with x led (ms ++ more) ≡ items_with x led ms ++ items_with x led more
 more_come x led [] more = refl
-more_come x led (m ∷ ms) more = ap (λ is. item_with x led m.1 ++ is) (more_come x led ms more) ∙ sym (append_assoc (item_with x led m.1) (items_with x led ms) (items_with x led more))
+more_come x led (m ∷ ms) more = ap (λ is. item_with x led m ++ is) (more_come x led ms more) ∙ sym (append_assoc (item_with x led m) (items_with x led ms) (items_with x led more))
 
 -- nor where no answer is due
-pub quiet_comes : (x : Session) (led : Option Led) (ms : List (ℕ × Answer)) → due (messages ms) ≡ [] → items_with x led ms ≡ []
+pub quiet_comes : (x : Session) (led : Option Led) (ms : List Answer) → due ms ≡ [] → items_with x led ms ≡ []
 quiet_comes x None ms e = none_comes x ms
 quiet_comes x (Some l) [] e = refl
-quiet_comes x (Some l) ((k, Recall n) ∷ ms) e = quiet_comes x (Some l) ms e
-quiet_comes x (Some l) ((k, Granted gs fresh t) ∷ ms) e = absurd (cc)
-quiet_comes x (Some l) ((k, Renewed ends t) ∷ ms) e = absurd (cc)
-quiet_comes x (Some l) ((k, Released count t) ∷ ms) e = absurd (cc)
-quiet_comes x (Some l) ((k, Shipped count t) ∷ ms) e = absurd (cc)
-quiet_comes x (Some l) ((k, Ended t) ∷ ms) e = absurd (cc)
+quiet_comes x (Some l) (Recall n ∷ ms) e = quiet_comes x (Some l) ms e
+quiet_comes x (Some l) (Granted gs fresh t ∷ ms) e = absurd (cc)
+quiet_comes x (Some l) (Renewed ends t ∷ ms) e = absurd (cc)
+quiet_comes x (Some l) (Released count t ∷ ms) e = absurd (cc)
+quiet_comes x (Some l) (Shipped count t ∷ ms) e = absurd (cc)
+quiet_comes x (Some l) (Ended t ∷ ms) e = absurd (cc)
 
-one_then : (x : Session) (l : Led) (b a : Answer) (ms : List (ℕ × Answer)) → b ∷ due (messages ms) ≡ a ∷ [] → item_with x (Some l) b ++ items_with x (Some l) ms ≡ item_with x (Some l) a
+one_then : (x : Session) (l : Led) (b a : Answer) (ms : List Answer) → b ∷ due ms ≡ a ∷ [] → item_with x (Some l) b ++ items_with x (Some l) ms ≡ item_with x (Some l) a
 one_then x l b a ms e =
     let same : b ≡ a = cc in
-    let rest : due (messages ms) ≡ [] = cc in
+    let rest : due ms ≡ [] = cc in
     ap (λ is. item_with x (Some l) b ++ is) (quiet_comes x (Some l) ms rest) ∙ append-nil (item_with x (Some l) b) ∙ ap (item_with x (Some l)) same
 
 -- the one that is due brings it
-pub one_comes : (x : Session) (l : Led) (ms : List (ℕ × Answer)) (a : Answer) → due (messages ms) ≡ a ∷ [] → items_with x (Some l) ms ≡ item_with x (Some l) a
+pub one_comes : (x : Session) (l : Led) (ms : List Answer) (a : Answer) → due ms ≡ a ∷ [] → items_with x (Some l) ms ≡ item_with x (Some l) a
 one_comes x l [] a e = absurd (cc)
-one_comes x l ((k, Recall n) ∷ ms) a e = one_comes x l ms a e
-one_comes x l ((k, Granted gs fresh t) ∷ ms) a e = one_then x l (Granted gs fresh t) a ms e
-one_comes x l ((k, Renewed ends t) ∷ ms) a e = one_then x l (Renewed ends t) a ms e
-one_comes x l ((k, Released count t) ∷ ms) a e = one_then x l (Released count t) a ms e
-one_comes x l ((k, Shipped count t) ∷ ms) a e = one_then x l (Shipped count t) a ms e
-one_comes x l ((k, Ended t) ∷ ms) a e = one_then x l (Ended t) a ms e
+one_comes x l (Recall n ∷ ms) a e = one_comes x l ms a e
+one_comes x l (Granted gs fresh t ∷ ms) a e = one_then x l (Granted gs fresh t) a ms e
+one_comes x l (Renewed ends t ∷ ms) a e = one_then x l (Renewed ends t) a ms e
+one_comes x l (Released count t ∷ ms) a e = one_then x l (Released count t) a ms e
+one_comes x l (Shipped count t ∷ ms) a e = one_then x l (Shipped count t) a ms e
+one_comes x l (Ended t ∷ ms) a e = one_then x l (Ended t) a ms e
 
 -- what brings nothing comes, and the same is on its way
-pub heard_comes : (x : Session) (led : Option Led) (k : ℕ) (a : Answer) (ms : List (ℕ × Answer)) → find (is_with k) ms ≡ Some (k, a) → item_with x led a ≡ [] → items_with x led (without_first (is_with k) ms) ≡ items_with x led ms
+pub heard_comes : (x : Session) (led : Option Led) (k : ℕ) (a : Answer) (ms : List (ℕ × Answer)) → find (is_with k) ms ≡ Some (k, a) → item_with x led a ≡ [] → items_with x led (messages (without_first (is_with k) ms)) ≡ items_with x led (messages ms)
 heard_comes x led k a [] f e = refl
-heard_comes x led k a (m ∷ ms) f e = elim (is_with k m) as (λ b. cond b (Some m) (find (is_with k) ms) ≡ Some (k, a) → items_with x led (cond b ms (m ∷ without_first (is_with k) ms)) ≡ item_with x led m.1 ++ items_with x led ms) [
-  | true ↦ λ g. let same : m ≡ (k, a) = cc in ap (λ is. is ++ items_with x led ms) (sym (ap (λ (n : ℕ × Answer). item_with x led n.1) same ∙ e))
+heard_comes x led k a (m ∷ ms) f e = elim (is_with k m) as (λ b. cond b (Some m) (find (is_with k) ms) ≡ Some (k, a) → items_with x led (messages (cond b ms (m ∷ without_first (is_with k) ms))) ≡ item_with x led m.1 ++ items_with x led (messages ms)) [
+  | true ↦ λ g. let same : m ≡ (k, a) = cc in ap (λ is. is ++ items_with x led (messages ms)) (sym (ap (λ (n : ℕ × Answer). item_with x led n.1) same ∙ e))
   | false ↦ λ g. ap (λ is. item_with x led m.1 ++ is) (heard_comes x led k a ms g e)
 ] f
 

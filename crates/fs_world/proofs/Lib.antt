@@ -43,6 +43,8 @@ pub mod Seen
 pub mod SeenSends
 pub mod Coming
 pub mod RepliesGiven
+pub mod ServerTelling
+pub mod ClientTelling
 pub mod ServedHolds
 pub mod ServerHolds
 pub mod SessionSteps

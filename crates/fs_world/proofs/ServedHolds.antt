@@ -43,7 +43,7 @@ pub record Holds (laws : EventLaws) (count skew greatest : ℕ) (tale : Tale) (p
   pub many : length p.servers ≡ count
   pub rows : (s : Server) → In s p.servers → AreOfJoined p.sessions s.rows
   pub parcels : (f : InFlight) → In f p.in_flight → BringsOf (HasJoined p.sessions) f.message
-  pub answered : AllTelling (lines_of p.term p.sessions) replied tale
+  pub answered : AllTelling (ends_in (cluster_of replied p)) replied tale
   pub items : AllFine p.journal
 
 -- there is a server
