@@ -1,15 +1,20 @@
 -- What servers hold together, with the parcels on their way between them.
 use Rattle.std.specs.Prelude.{ℕ, List, [], ◌∷◌, Option, Some, None}
+use Rattle.std.specs.List.{flat_map}
 use Rattle.std.specs.FinMap.{empty, entries, get, insert}
 use Rattle.fs_ident.specs.Ordered.{Keyed}
+use Rattle.fs_field.specs.declared.effect.Effect.{Effect}
 use Rattle.fs_field.specs.declared.row.Row.{Row}
 use Rattle.fs_model.specs.Namespace.{NodeMap}
+use Rattle.fs_msg.specs.declared.peer_msg.PeerMsg.{PeerMsg}
+use Rattle.fs_msg.specs.declared.peer_msg.PeerMsg.TheVariants.{Decide}
 use Rattle.fs_record.specs.Moving.{with_records}
 use Rattle.fs_record.specs.Records.{RecordMap}
 use Rattle.fs_record.specs.declared.parcel.Parcel.{Parcel}
 use Rattle.fs_record.specs.declared.record.Record.{Record}
 use Rattle.fs_rows.specs.Granted.{with_rows}
 use Rattle.fs_server.specs.declared.state.Server.{Server}
+use Rattle.fs_serial.specs.declared.in_flight.InFlight.{InFlight}
 
 -- ## Records
 
@@ -24,6 +29,17 @@ with_parcels (p ∷ ps) m = with_parcels ps (with_records p.records m)
 -- the records of all servers, and of the parcels
 abbrev pub records_of_all : List Server → List Parcel → RecordMap
 records_of_all servers parcels = with_parcels parcels (with_all_of servers empty)
+
+-- ## What is decided and on its way
+
+-- the effects that a message tells a part to apply
+abbrev pub effects_by : PeerMsg → List Effect
+effects_by (Decide m) = m.effects
+effects_by m = []
+
+-- and all messages on their way, in order
+abbrev pub effects_on_way : List InFlight → List Effect
+effects_on_way in_flight = flat_map (λ (f : InFlight). effects_by f.message) in_flight
 
 -- ## Rows, in order of number
 
