@@ -18,8 +18,9 @@ use Rattle.fs_schedule.specs.declared.limits.TheConstants.{PACKETS}
 use Rattle.fs_schedule.specs.declared.outcome.Outcome.{Outcome}
 use Rattle.fs_ident.specs.declared.actor.Peer.TheVariants.{Server}
 use Rattle.fs_serial.specs.Cluster.{parcels_of}
-use Rattle.fs_serial.specs.Joined.{records_of_all}
+use Rattle.fs_serial.specs.Joined.{effects_on_way, records_of_all}
 use Rattle.fs_serial.specs.World.{is_called}
+use Rattle.fs_txn.specs.Decided.{held_with}
 use Rattle.fs_window.specs.declared.sent.Sent.{Sent}
 use Rattle.fs_world.specs.Direct as direct
 use Rattle.fs_world.specs.Direct.{first_direct}
@@ -44,10 +45,10 @@ abbrev pub packets_of : Form → List Sent
 packets_of (Direct w) = []
 packets_of (Served w) = w.packets.sent
 
--- the namespace that the servers hold together
+-- the namespace that the servers hold together, with what is decided and on its way to them
 abbrev pub space_of : Form → NodeMap
 space_of (Direct w) = w.space
-space_of (Served w) = nodes_of (records_of_all w.servers (parcels_of w.in_flight))
+space_of (Served w) = nodes_of (held_with (effects_on_way w.in_flight) (records_of_all w.servers (parcels_of w.in_flight)))
 
 -- ## One event
 
