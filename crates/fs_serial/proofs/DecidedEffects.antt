@@ -9,6 +9,7 @@ pub mod Owing
 pub mod Applying
 pub mod DecidedKept
 pub mod Deciding
+pub mod EffectsOnWay
 pub mod ToldParts
 pub mod FileApart
 pub mod ToldCovered

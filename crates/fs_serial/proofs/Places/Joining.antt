@@ -5,7 +5,8 @@ use Rattle.std.proofs.lemmas.Option.{slice_get_read}
 use Rattle.std.specs.Prelude.{◌⊎◌, Option, Some, None, map}
 use Rattle.std.specs.Ordering.{nat_cmp, eq_by_cmp}
 use Rattle.std.specs.Cmp.Lexicographic.{slice_cmp, nat_list_cmp_total}
-use Rattle.std.specs.FinMap.{get, insert, empty, entries, entries_sorted, keys, find, get-empty, get-entries, get-insert, len-empty, len-entries, same_map}
+use Rattle.std.specs.FinMap.{get, insert, empty, entries, entries_sorted, keys, find}
+use Rattle.std.specs.FinMap.{get-empty, get-entries, get-insert, len-empty, len-entries, same_map}
 use Rattle.fs_ident.specs.In.{In}
 use Rattle.fs_ident.proofs.Booleans.{equal_is, holds}
 use Rattle.fs_ident.proofs.MapsOf.{anti, put_here}
@@ -99,13 +100,17 @@ record_or records m q =
 pub nodes_joined : (records m : RecordMap) → with_nodes records (keys records) (nodes_of m) ≡ nodes_of (with_records (entries records) m)
 nodes_joined records m = all_come records (keys records) (nodes_of m) (nodes_of (with_records (entries records) m)) (get (nodes_of m)) (record_or records m) (λ q. none_yet records (nodes_of m) q (get records q) refl)
 
+-- where nothing was there
 alone : (o : Option Record) (base : Option Node) → base ≡ None → node_of o ≡ node_or o base
 alone None base e = sym e
 alone (Some r) base e = refl
 
 -- with them alone
 pub nodes_alone : (m : RecordMap) → with_nodes m (keys m) empty ≡ nodes_of m
-nodes_alone m = all_come m (keys m) empty (nodes_of m) (get empty) (λ q. node_there m q ∙ alone (get m q) (get empty q) (get-empty (slice_cmp nat_cmp) q)) (λ q. none_yet m empty q (get m q) refl)
+nodes_alone m =
+    all_come m (keys m) empty (nodes_of m) (get empty)
+    (λ q. node_there m q ∙ alone (get m q) (get empty q) (get-empty (slice_cmp nat_cmp) q))
+    (λ q. none_yet m empty q (get m q) refl)
 
 -- with those of a list of records
 pub nodes_listed : (es : Keyed Record) (m : RecordMap) → with_nodes_in es (nodes_of m) ≡ nodes_of (with_records es m)

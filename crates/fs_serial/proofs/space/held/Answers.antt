@@ -11,15 +11,18 @@ use Rattle.fs_serial.proofs.space.held.Goals as goal
 
 pub loop-server-preserved : goal.loop-server-preserved
 loop-server-preserved c =
-    more_servers c.as_slice-server-items.result.now c.loop-server.server-index c.server-item.result (nodes_of c.loop-server.all) (nodes_of c.take_records.new.all) c.records.result.now c.loop-server-test.true c.server-item.is c.records.ensures.records c.loop-server.invariant
-    c.in_ok-take_records.ensures
+    more_servers c.as_slice-server-items.result.now c.loop-server.server-index c.server-item.result (nodes_of c.loop-server.all)
+    (nodes_of c.take_records.new.all) c.records.result.now c.loop-server-test.true c.server-item.is c.records.ensures.records
+    c.loop-server.invariant c.in_ok-take_records.ensures
 
 pub take_all-requires : goal.take_all-requires
 take_all-requires c = λ e i. c.requires c.parcel-item.result
-    (subst (λ (ps : List TheParcel). In c.parcel-item.result ps) c.as_slice-parcel-items.ensures (read_In c.as_slice-parcel-items.result.now c.loop-parcel.parcel-index c.parcel-item.result c.loop-parcel-test.true c.parcel-item.is))
+    (subst (λ (ps : List TheParcel). In c.parcel-item.result ps) c.as_slice-parcel-items.ensures
+    (read_In c.as_slice-parcel-items.result.now c.loop-parcel.parcel-index c.parcel-item.result c.loop-parcel-test.true c.parcel-item.is))
     e (subst (λ (rs : Keyed Record). In e rs) c.as_slice.ensures i)
 
 pub loop-parcel-preserved : goal.loop-parcel-preserved
 loop-parcel-preserved c =
-    more_parcels c.as_slice-parcel-items.result.now c.loop-parcel.parcel-index c.parcel-item.result (with_all_of c.args.servers.now empty) (nodes_of c.loop-parcel.all) (nodes_of c.take_all.new.all) c.as_slice.result.now c.loop-parcel-test.true c.parcel-item.is c.as_slice.ensures
-    c.loop-parcel.invariant c.in_ok-take_all.ensures
+    more_parcels c.as_slice-parcel-items.result.now c.loop-parcel.parcel-index c.parcel-item.result
+    (with_all_of c.args.servers.now empty) (nodes_of c.loop-parcel.all) (nodes_of c.take_all.new.all) c.as_slice.result.now
+    c.loop-parcel-test.true c.parcel-item.is c.as_slice.ensures c.loop-parcel.invariant c.in_ok-take_all.ensures

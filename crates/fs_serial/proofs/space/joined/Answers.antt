@@ -11,7 +11,8 @@ use Rattle.fs_serial.proofs.space.joined.Goals as goal
 pub returns : goal.returns
 returns c =
     let es = c.args.decided.now in
-    let applied = sym (at_drop_all (records_after_all c.loop-e.all) c.as_slice-e-items.result.now c.loop-e.e-index (omega arith)) ∙ c.loop-e.invariant ∙ ap (records_after_all c.in_ok-all.all) c.as_slice-e-items.ensures in
+    let none_left = at_drop_all (records_after_all c.loop-e.all) c.as_slice-e-items.result.now c.loop-e.e-index (omega arith) in
+    let applied = sym none_left ∙ c.loop-e.invariant ∙ ap (records_after_all c.in_ok-all.all) c.as_slice-e-items.ensures in
     c.in_ok-put_records.ensures
     ∙ ap (with_nodes c.loop-e.all (keys c.loop-e.all)) c.empty-space.ensures
     ∙ nodes_alone c.loop-e.all

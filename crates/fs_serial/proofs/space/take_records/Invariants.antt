@@ -5,4 +5,5 @@ use Rattle.fs_serial.proofs.space.take_records.Given as goal
 
 -- with the nodes of the files that are left, it is as it will be
 abbrev pub invariant-loop-file : goal.invariant-loop-file
-invariant-loop-file l = with_nodes l.records (drop l.file-index l.file-items) (nodes_of l.all) ≡ with_nodes l.records l.file-items (nodes_of l.initial.all)
+invariant-loop-file l =
+    with_nodes l.records (drop l.file-index l.file-items) (nodes_of l.all) ≡ with_nodes l.records l.file-items (nodes_of l.initial.all)
