@@ -30,6 +30,17 @@ with_parcels (p ∷ ps) m = with_parcels ps (with_records p.records m)
 abbrev pub records_of_all : List Server → List Parcel → RecordMap
 records_of_all servers parcels = with_parcels parcels (with_all_of servers empty)
 
+-- ## What is decided and on its way
+
+-- the effects that a message tells a part to apply
+abbrev pub effects_by : PeerMsg → List Effect
+effects_by (Decide m) = m.effects
+effects_by m = []
+
+-- and all messages on their way, in order
+abbrev pub effects_on_way : List InFlight → List Effect
+effects_on_way in_flight = flat_map (λ (f : InFlight). effects_by f.message) in_flight
+
 -- ## Rows, in order of number
 
 abbrev pub with_rows_of : List Server → List Row → List Row
@@ -59,14 +70,3 @@ with_nodes records (f ∷ fs) m = with_nodes records fs (with_node f (get record
 abbrev pub with_nodes_in : Keyed Record → NodeMap → NodeMap
 with_nodes_in [] m = m
 with_nodes_in (e ∷ es) m = with_nodes_in es (insert m e.0 e.1.node)
-
--- ## What is decided and not applied yet
-
--- the effects that a message tells a part to apply
-abbrev pub effects_by : PeerMsg → List Effect
-effects_by (Decide m) = m.effects
-effects_by m = []
-
--- and all messages on their way, in order
-abbrev pub effects_on_way : List InFlight → List Effect
-effects_on_way in_flight = flat_map (λ (f : InFlight). effects_by f.message) in_flight

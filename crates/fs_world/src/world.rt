@@ -4,11 +4,13 @@ ghost use Rattle.fs_ident.specs.declared.limits.TheConstants.{LATEST};
 ghost use Rattle.fs_msg.specs.declared.core_error.Counter.{Counter as TheCounter};
 ghost use Rattle.fs_msg.specs.declared.core_error.CoreError.TheVariants as errors;
 ghost use Rattle.fs_serial.specs.Cluster.{parcels_of};
+ghost use Rattle.fs_serial.specs.Joined.{effects_by, effects_on_way};
 
 use crate::direct::world::Direct;
 use crate::form::Form;
 use crate::servers::world::Served;
-use fs_ident::{List, Memory, Twin};
+use fs_field::Effect;
+use fs_ident::{List, Memory, Twin, add_copy};
 use fs_model::Space;
 use fs_msg::{CoreError, Item, PeerMsg};
 use fs_record::Parcel;
@@ -116,15 +118,17 @@ impl World {
         }
     }
 
-    /// The namespace that the servers hold together.
+    /// The namespace that the servers hold together, with what is decided and on its way to them.
     pub fn space(&self, alloc: Global) -> Result<Space, Memory>
         ensures { IfOk result (λ space. space ≡ space_of self.now) }
     {
         match &self.form {
             Form::Direct(direct) => direct.space.copy(alloc),
             Form::Served(served) => {
-                let parcels = parcels_of(alloc, served.in_flight.as_slice())?;
-                joined(alloc, &served.servers, &parcels)
+                let in_flight = served.in_flight.as_slice();
+                let parcels = parcels_of(alloc, in_flight)?;
+                let decided = effects_on_way(alloc, in_flight)?;
+                joined(alloc, &served.servers, &parcels, &decided)
             }
         }
     }
@@ -167,4 +171,34 @@ fn push_parcel(alloc: Global, parcels: &mut List<Parcel>, f: &InFlight) -> Resul
         PeerMsg::Parcel { parcel } => parcels.push(parcel.copy(alloc)?),
         _ => Ok(()),
     }
+}
+
+/// The effects that messages on their way tell parts to apply, in order.
+fn effects_on_way(alloc: Global, in_flight: &[InFlight]) -> Result<List<Effect>, Memory>
+    ensures { IfOk result (λ effects. effects ≡ effects_on_way in_flight.now) }
+{
+    let mut effects = List::new(alloc);
+    for f in in_flight {
+        add_effects(alloc, &mut effects, &f.message)?;
+    }
+    Ok(effects)
+}
+
+/// The effects that the message tells a part to apply, if it tells any.
+fn add_effects(alloc: Global, effects: &mut List<Effect>, message: &PeerMsg) -> Result<(), Memory>
+    ensures { OnOk result (effects.new ≡ effects.old ++ effects_by message.now) }
+{
+    match message {
+        PeerMsg::Decide { decide } => add_all(alloc, effects, decide.effects.as_slice()),
+        _ => Ok(()),
+    }
+}
+
+fn add_all(alloc: Global, effects: &mut List<Effect>, more: &[Effect]) -> Result<(), Memory>
+    ensures { OnOk result (effects.new ≡ effects.old ++ more.now) }
+{
+    for e in more {
+        add_copy(alloc, effects, e)?;
+    }
+    Ok(())
 }

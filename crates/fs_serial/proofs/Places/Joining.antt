@@ -5,7 +5,8 @@ use Rattle.std.proofs.lemmas.Option.{slice_get_read}
 use Rattle.std.specs.Prelude.{◌⊎◌, Option, Some, None, map}
 use Rattle.std.specs.Ordering.{nat_cmp, eq_by_cmp}
 use Rattle.std.specs.Cmp.Lexicographic.{slice_cmp, nat_list_cmp_total}
-use Rattle.std.specs.FinMap.{get, insert, empty, entries, entries_sorted, from_entries, keys, find, get-entries, get-insert, len-empty, len-entries, same_map}
+use Rattle.std.specs.FinMap.{get, insert, empty, entries, entries_sorted, keys, find}
+use Rattle.std.specs.FinMap.{get-empty, get-entries, get-insert, len-empty, len-entries, same_map}
 use Rattle.fs_ident.specs.In.{In}
 use Rattle.fs_ident.proofs.Booleans.{equal_is, holds}
 use Rattle.fs_ident.proofs.MapsOf.{anti, put_here}
@@ -99,6 +100,18 @@ record_or records m q =
 pub nodes_joined : (records m : RecordMap) → with_nodes records (keys records) (nodes_of m) ≡ nodes_of (with_records (entries records) m)
 nodes_joined records m = all_come records (keys records) (nodes_of m) (nodes_of (with_records (entries records) m)) (get (nodes_of m)) (record_or records m) (λ q. none_yet records (nodes_of m) q (get records q) refl)
 
+-- where nothing was there
+alone : (o : Option Record) (base : Option Node) → base ≡ None → node_of o ≡ node_or o base
+alone None base e = sym e
+alone (Some r) base e = refl
+
+-- with them alone
+pub nodes_alone : (m : RecordMap) → with_nodes m (keys m) empty ≡ nodes_of m
+nodes_alone m =
+    all_come m (keys m) empty (nodes_of m) (get empty)
+    (λ q. node_there m q ∙ alone (get m q) (get empty q) (get-empty (slice_cmp nat_cmp) q))
+    (λ q. none_yet m empty q (get m q) refl)
+
 -- with those of a list of records
 pub nodes_listed : (es : Keyed Record) (m : RecordMap) → with_nodes_in es (nodes_of m) ≡ nodes_of (with_records es m)
 nodes_listed [] m = refl
@@ -120,12 +133,8 @@ server_joined servers s m = nodes_joined s.records (with_all_of servers m) ∙ a
 pub parcel_joined : (parcels : List Parcel) (p : Parcel) (m : RecordMap) → with_nodes_in p.records (nodes_of (with_parcels parcels m)) ≡ nodes_of (with_parcels (parcels ++ p ∷ []) m)
 parcel_joined parcels p m = nodes_listed p.records (with_parcels parcels m) ∙ ap nodes_of (sym (one_parcel parcels p m))
 
--- no record has no node
 pub none_entered : entries {K = List ℕ} {X = Record} {R = slice_cmp nat_cmp} empty ≡ []
 none_entered = no_entries _ (sym (len-entries {K = List ℕ} {X = Record} {R = slice_cmp nat_cmp} empty) ∙ len-empty (slice_cmp nat_cmp) Record)
-
-pub none_joined : empty ≡ nodes_of empty
-none_joined = sym (ap (λ (es : Keyed Record). from_entries (map (λ (e : List ℕ × Record). (e.0, e.1.node)) es)) none_entered)
 
 pub more_servers : (servers : List Server) (i : ℕ) (s : Server) (space later : NodeMap) (records : RecordMap) → i < length servers → s ≡ get_or servers i s → records ≡ s.records → space ≡ nodes_of (with_all_of (take i servers) empty) → later ≡ with_nodes records (keys records) space
     → later ≡ nodes_of (with_all_of (take (i + 1) servers) empty)

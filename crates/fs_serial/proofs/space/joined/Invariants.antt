@@ -1,13 +1,7 @@
-use Rattle.std.proofs.Common.{◌≡◌, take}
-use Rattle.std.specs.FinMap.{empty}
-use Rattle.fs_record.specs.Records.{nodes_of}
-use Rattle.fs_serial.specs.Joined.{with_all_of, with_parcels}
+use Rattle.std.proofs.Common.{◌≡◌, drop}
+use Rattle.fs_record.specs.Applied.{records_after_all}
 use Rattle.fs_serial.proofs.space.joined.Given as goal
 
--- it has the nodes of the servers so far
-abbrev pub invariant-loop-server : goal.invariant-loop-server
-invariant-loop-server l = l.space ≡ nodes_of (with_all_of (take l.server-index l.server-items) empty)
-
--- and of the parcels so far
-abbrev pub invariant-loop-parcel : goal.invariant-loop-parcel
-invariant-loop-parcel l = l.space ≡ nodes_of (with_parcels (take l.parcel-index l.parcel-items) (with_all_of l.servers empty))
+-- with what is left of what was decided, it is as it will be
+abbrev pub invariant-loop-e : goal.invariant-loop-e
+invariant-loop-e l = records_after_all l.all (drop l.e-index l.e-items) ≡ records_after_all l.initial.all l.e-items
