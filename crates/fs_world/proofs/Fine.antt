@@ -219,22 +219,21 @@ led_asks : (o : Op) → is_led o ≡ true → AsksAccess o
 led_asks (op.OpenFile file x modes) h = absurd (cc)
 led_asks o h = tt
 
--- each is a delete or a rename
-abbrev pub AreLed : List Leading → Type 0
-AreLed leading = (l : Leading) → In l leading → is_led l.leader.op ≡ true
+abbrev pub LeadersAsk : List Leading → Type 0
+LeadersAsk leading = (l : Leading) → In l leading → AsksAccess l.leader.op
 
-decided_fine : (d : Decision) (l : Leader) → is_led l.op ≡ true → AllFine (admitted_of d l)
-decided_fine (Commit r effects) l h = (record { asks = led_asks l.op h }, tt)
+decided_fine : (d : Decision) (l : Leader) → AsksAccess l.op → AllFine (admitted_of d l)
+decided_fine (Commit r effects) l h = (record { asks = h }, tt)
 decided_fine (Abort e) l h = tt
 
 abbrev AdmitsFine : Stepped → Type 0
 AdmitsFine x = AllFine x.out.admitted
 
-goes_fine : (n : ServerNote) (l : Leading) (sent : List (Peer × Msg)) (s : ServerState) → is_led l.leader.op ≡ true
+goes_fine : (n : ServerNote) (l : Leading) (sent : List (Peer × Msg)) (s : ServerState) → AsksAccess l.leader.op
     → AdmitsFine (goes_on n l sent s)
 goes_fine n l sent s h = each_goes AdmitsFine n l sent s (decided_fine (decision l.leader None) l.leader h) tt
 
-vote_fine : (m : Voted) (s : ServerState) → AreLed s.leading → AdmitsFine (vote_step m s)
+vote_fine : (m : Voted) (s : ServerState) → LeadersAsk s.leading → AdmitsFine (vote_step m s)
 vote_fine m s led = each_vote AdmitsFine m s tt
     (λ l p to f. tt)
     (λ l v f. goes_fine (server_note.Waits l.leader.txn) (with_vote m.number v l) [] s (among l f))
@@ -242,7 +241,7 @@ vote_fine m s led = each_vote AdmitsFine m s tt
     goes_fine (server_note.Waits l.leader.txn) (with_vote m.number v (asked_at m.number s.me l)) []
     (after_own_vote l.leader.txn p v s) (among l f))
   where
-    among : (l : Leading) → leading_of m.txn s.leading ≡ Some l → is_led l.leader.op ≡ true
+    among : (l : Leading) → leading_of m.txn s.leading ≡ Some l → AsksAccess l.leader.op
     among l f = led l (found (λ (x : Leading). same_txn x.leader.txn m.txn) s.leading l f).0
 
 left_fine : (x : Ending) (left : List (ℕ × ℕ)) (s : ServerState) → AdmitsFine (done_with x left s)
@@ -257,7 +256,8 @@ lead_fine by m s x (unled l) = tt
 lead_fine by m s x (server_puts_off w l r) = tt
 lead_fine by m s x (txn_begun l r) =
     let g : Round = round_of by m s in
-    goes_fine (server_note.Prepares (txn_of s)) (record { leader = leader_with (txn_of s) by m g.votes; at = g.at }) g.send g.server l
+    goes_fine (server_note.Prepares (txn_of s)) (record { leader = leader_with (txn_of s) by m g.votes; at = g.at }) g.send g.server
+    (led_asks m.op l)
 
 -- ## Each message of a session
 
@@ -300,7 +300,7 @@ decide_fine : (b : Bool) (from : ℕ) (m : ToDecide) (s : ServerState) → AllFi
 decide_fine true from m s = tt
 decide_fine false from m s = tt
 
-peer_fine : (from : ℕ) (m : PeerMsg) (s : ServerState) → AreLed s.leading → AllFine (peer_step from m s).out.admitted
+peer_fine : (from : ℕ) (m : PeerMsg) (s : ServerState) → LeadersAsk s.leading → AllFine (peer_step from m s).out.admitted
 peer_fine from (OfParcel p) s led = parcel_fine (fits_here p s) p s
 peer_fine from (Prepare m) s led = prepare_fine (is_prepared m.txn m.number s.prepared) (vote_here s m.session m.part) from m s
 peer_fine from (Vote m) s led = vote_fine m s led
@@ -311,7 +311,7 @@ abbrev pub EventAsks : ServerEvent → Type 0
 EventAsks (FromClient by m) = MessageAsks m
 EventAsks e = Unit {0}
 
-pub step_fine : (s : ServerState) (now : ℕ) (e : ServerEvent) → EventAsks e → AreLed s.leading → AllFine (step s now e).out.admitted
+pub step_fine : (s : ServerState) (now : ℕ) (e : ServerEvent) → EventAsks e → LeadersAsk s.leading → AllFine (step s now e).out.admitted
 step_fine s now (FromClient by m) a led = message_fine by m (server_begun now s) a
 step_fine s now Turn a led = let b : ServerState = server_begun now s in turn_over_fine (lapsed_in b) b
 step_fine s now (TheRecall field) a led = tt
