@@ -20,7 +20,7 @@ use Rattle.fs_world.specs.declared.form.Form.{Form}
 use Rattle.fs_world.specs.declared.form.Form.TheVariants.{Direct, Served}
 use Rattle.fs_world.specs.declared.servers.world.Served.{Served as TheServed}
 use Rattle.fs_world.proofs.FirstServed.{first_holds}
-use Rattle.fs_world.proofs.SerialLaws.{EventLaws, all_asks, all_clock, all_exchanges, all_owned}
+use Rattle.fs_world.proofs.SerialLaws.{EventLaws, all_asks, all_clock, all_exchanges, all_leaders, all_owned}
 use Rattle.fs_world.proofs.ServedHolds.{cluster_of}
 use Rattle.fs_world.proofs.ServedSteps.{step_holds}
 use Rattle.fs_world.proofs.SessionSteps.{HoldsOf, parts_of}
@@ -40,6 +40,7 @@ anyhow_laws = record {
   owned = λ skew greatest s c x i h. all_owned skew greatest s (told_as h.journal h.replied c) x i h.holds;
   exchanges = λ skew greatest s c x i h. let q = all_exchanges skew greatest s (told_as h.journal h.replied c) x i h.holds in
       record { one = q.one; leads = q.leads; addressed = q.addressed };
+  leaders = λ skew greatest k s c at h. all_leaders skew greatest k s (told_as h.journal h.replied c) at h.holds;
   led = λ skew greatest c h. let l = h.holds.led in record {
     parts = l.parts;
     stages = l.stages;

@@ -1,16 +1,21 @@
 -- The laws of servers and their clients on which those of worlds rest.
-use Rattle.std.proofs.Common.{◌≡◌, ℕ, ◌+◌, ◌≤◌, max, List, Some, sym, subst, arith}
+use Rattle.std.proofs.Common.{◌≡◌, ℕ, ◌+◌, ◌≤◌, true, max, List, Some, sym, subst, arith}
 use Rattle.std.specs.Prelude.{◌≢◌, slice_get}
 use Rattle.fs_ident.specs.In.{In}
 use Rattle.fs_ident.specs.declared.actor.Session.{Session}
-use Rattle.fs_ident.proofs.Standing.{In-front}
+use Rattle.fs_ident.proofs.Standing.{In-front, In-got}
 use Rattle.fs_model.specs.Sound.{AsksAccess}
+use Rattle.fs_model.specs.declared.op.Op.{Op}
+use Rattle.fs_model.specs.declared.op.Op.TheVariants as op
+use Rattle.fs_model.specs.declared.reply.Reply.{Reply}
 use Rattle.fs_msg.specs.declared.answer.Answer.{Answer}
 use Rattle.fs_msg.specs.declared.client_msg.ClientMsg.TheVariants.{Ship}
 use Rattle.fs_msg.specs.declared.client_note.ClientNote.TheVariants as client_note
 use Rattle.fs_msg.specs.declared.entry.Entry.{Entry}
 use Rattle.fs_msg.specs.declared.server_note.ServerNote.TheVariants as server_note
 use Rattle.fs_client.specs.Answers.{answer_plan}
+use Rattle.fs_client.specs.Led.{is_led}
+use Rattle.fs_txn.specs.declared.leading.Leading.{Leading}
 use Rattle.fs_server.specs.Step.{step}
 use Rattle.fs_server.specs.declared.event.ServerEvent.{ServerEvent}
 use Rattle.fs_server.specs.declared.event.ServerEvent.TheVariants.{FromClient}
@@ -19,9 +24,10 @@ use Rattle.fs_serial.specs.Cluster.{CanCome, ClientEvent, Cluster, IsThere, Line
 use Rattle.fs_serial.specs.Cluster.ClientEvent.{Hears}
 use Rattle.fs_serial.specs.Exchange.{LeadsTold, OneExchange}
 use Rattle.fs_serial.specs.Refusals.{IsFairStep}
-use Rattle.fs_serial.specs.Leading.{LedHolds}
+use Rattle.fs_serial.specs.Leading.{IsLeading, IsLedBy, LedHolds}
 use Rattle.fs_serial.specs.Owed.{ends_in}
 use Rattle.fs_serial.specs.Seen.{ClusterHolds, IsAddressed}
+use Rattle.fs_serial.proofs.Transactions.YesesStand.{session_stands}
 
 pub record SerialLaws : Type 0 where
   -- every event of a server keeps all that holds, and the greatest reading may rise
@@ -62,6 +68,9 @@ pub record EventLaws : Type 1 where
   pub owned : (skew greatest : ℕ) (s : Server) (c : Cluster) (x : Session) → In s c.servers → Holds skew greatest c → (c.lines x).client.session ≡ x
   -- and asks one question at a time
   pub exchanges : (skew greatest : ℕ) (s : Server) (c : Cluster) (x : Session) → In s c.servers → Holds skew greatest c → AsksOne c x
+  -- what a server leads asks for an access where it opens
+  pub leaders : (skew greatest k : ℕ) (s : Server) (c : Cluster) → slice_get c.servers k ≡ Some s → Holds skew greatest c
+      → (l : Leading) → In l s.leading → AsksAccess l.leader.op
   -- what servers lead is of sessions that wait for it
   pub led : (skew greatest : ℕ) (c : Cluster) → Holds skew greatest c → LedHolds c
 
@@ -81,6 +90,20 @@ all_owned skew greatest s c x i h = ((h.parts s i).0.clients x).session
 pub all_exchanges : (skew greatest : ℕ) (s : Server) (c : Cluster) (x : Session) → In s c.servers → ClusterHolds skew greatest c → AsksOne c x
 all_exchanges skew greatest s c x i h = let e = (h.parts s i).0.exchanges x in record { one = e.one; leads = e.leads; addressed = h.addressed x }
 
+-- what moves or goes opens nothing
+moves_ask : (o : Op) (r : Reply) → is_led o r ≡ true → AsksAccess o
+moves_ask (op.OpenFile file x modes) r e = absurd (cc e)
+moves_ask o r e = tt
+
+pub all_leaders : (skew greatest k : ℕ) (s : Server) (c : Cluster) → slice_get c.servers k ≡ Some s → ClusterHolds skew greatest c
+    → (l : Leading) → In l s.leading → AsksAccess l.leader.op
+all_leaders skew greatest k s c at h l i =
+    let q : IsLeading c.lines s h.led.parts l = h.led.leading s (In-got c.servers k s at) l i in
+    let its : IsLedBy c.lines l.leader.session k q.led =
+    subst (λ (n : ℕ). IsLedBy c.lines l.leader.session n q.led) (h.places.numbered k s at) q.client in
+    subst AsksAccess (sym q.leader.op)
+    (moves_ask q.led.entry.op q.led.entry.reply (session_stands k skew greatest c s at h l i q.led its).leads)
+
 -- in time is an event where no reading before it is ahead of its own by more than the skew
 abbrev pub timed : SerialLaws → EventLaws
 timed laws = record {
@@ -95,5 +118,6 @@ timed laws = record {
   asks = all_asks;
   owned = all_owned;
   exchanges = all_exchanges;
+  leaders = all_leaders;
   led = λ skew greatest c h. h.led;
 }
