@@ -1,5 +1,6 @@
 -- What a server that leads operations keeps and decides names only servers that there are, and what it tells can be read.
-use Rattle.std.proofs.Common.{◌≡◌, ◌∙◌, ◌==◌, ℕ, ◌+◌, Bool, true, false, not, List, [], ◌∷◌, map, Option, Some, None, refl, sym, ap, subst, cond, inl, inr}
+use Rattle.std.proofs.Common.{◌≡◌, ◌∙◌, ◌==◌, ℕ, ◌+◌, Bool, true, false, not, List, [], ◌∷◌, map, Option, Some, None, refl, sym, ap, subst}
+use Rattle.std.proofs.Common.{cond, inl, inr}
 use Rattle.std.specs.Prelude.{IfSome, slice_get, slice_set, unwrap_or}
 use Rattle.std.specs.List.{AllByRecursion, flat_map, list_all}
 use Rattle.std.proofs.lemmas.Bool.{not-true}
@@ -26,8 +27,10 @@ use Rattle.fs_record.specs.declared.led_end.LedEnd.{LedEnd}
 use Rattle.fs_serial.proofs.Lists.SetAt.{In_set}
 use Rattle.fs_serial.proofs.Transactions.PlacesAfter.{AreRelocked}
 use Rattle.fs_serial.proofs.Transactions.Tables.{in_with_ending, in_with_leading, in_without_leading}
-use Rattle.fs_txn.specs.Deciding.{agreed, by_path, commit, decision, effects_on, end_of_vote, first_end, needs_path, or_else, reply_of, told_effects, unless_ended}
-use Rattle.fs_txn.specs.Leading.{elsewhere, end_of_decision, own_effects, own_parts, said_yes, with_ending, with_leading, without_leading, yes_from, yes_parts}
+use Rattle.fs_txn.specs.Deciding.{agreed, by_path, commit, decision, effects_on, end_of_vote, first_end, needs_path, or_else, reply_of}
+use Rattle.fs_txn.specs.Deciding.{told_effects, unless_ended}
+use Rattle.fs_txn.specs.Leading.{elsewhere, end_of_decision, own_effects, own_parts, said_yes, with_ending, with_leading, without_leading}
+use Rattle.fs_txn.specs.Leading.{yes_from, yes_parts}
 use Rattle.fs_txn.specs.Votes.{Votes, votes_after}
 use Rattle.fs_txn.specs.declared.decision.Decision.{Decision}
 use Rattle.fs_txn.specs.declared.leader.Leader.{Leader}
@@ -98,7 +101,8 @@ commit_tells l r part = at (slice_get parts part) (λ es e. In-got parts part es
     at None g = tt
     at (Some es) g =
         let q = In-map on es l.parts (g es refl) in
-        subst (AllByRecursion IsTellable) (sym q.1.1) (each_left IsTellable (λ e. same (changed_file e) q.0.file) (led_effects l.op l.file r) (led_tellable l.op l.file r))
+        subst (AllByRecursion IsTellable) (sym q.1.1)
+        (each_left IsTellable (λ e. same (changed_file e) q.0.file) (led_effects l.op l.file r) (led_tellable l.op l.file r))
 
 pub decision_tells : (l : Leader) → TellsOpen (decision l None)
 decision_tells l = unless (first_end l.votes) (agreed l None) (either (needs_path l.mode l.op))

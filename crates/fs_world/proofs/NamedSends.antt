@@ -24,10 +24,11 @@ use Rattle.fs_server.specs.declared.event.ServerEvent.{ServerEvent}
 use Rattle.fs_server.specs.declared.event.ServerEvent.TheVariants.{FromClient, FromPeer, Move, Recall, Turn}
 use Rattle.fs_server.specs.declared.state.Server.{Server as Core}
 use Rattle.fs_wire.specs.Readable.{is_readable_handle, is_readable_row, is_readable_session}
+use Rattle.fs_world.specs.Linked.{Brings, HasJoined, IsCarried, IsNamedAnswer, IsParcelOf, IsServed}
 use Rattle.fs_world.specs.Readable.{HasOpenHandles}
 use Rattle.fs_world.specs.Served.{SessionStates}
 use Rattle.fs_world.proofs.SeenRows.{AreOf}
-use Rattle.fs_world.specs.Linked.{Brings, HasJoined, IsCarried, IsNamedAnswer, IsParcelOf, IsServed}
+
 -- ## What is sent
 
 -- an answer to a session that has joined, which names servers that there are and can be read, or a message for another server
@@ -65,19 +66,22 @@ in_range n least most some few = grind (arith, nat_tests)
 record_passes : (r : Record) → HasOpenHandles r → IsRecord r → is_readable_record r ≡ true
 record_passes r h own = joined _ _ (handles_pass r.node.handles h) (in_range r.next 1 (2 ^ 32) own.least own.most)
 
-parcel_readable : (sessions : SessionStates) (p : Parcel) → ((s : Session) → HasJoined sessions s → is_readable_session s ≡ true) → IsParcelOf sessions p → is_readable_parcel p ≡ true
+parcel_readable : (sessions : SessionStates) (p : Parcel) → ((s : Session) → HasJoined sessions s → is_readable_session s ≡ true)
+    → IsParcelOf sessions p → is_readable_parcel p ≡ true
 parcel_readable sessions p readable h =
     joined _ _ (In-all (λ (e : List ℕ × Record). is_readable_record e.1) p.records (λ e i. record_passes e.1 (h.handles e i) (h.each e i)))
     (In-all is_readable_row p.rows (λ row i. readable row.session (h.rows row i)))
 
-peer_readable : (servers : ℕ) (sessions : SessionStates) (m : PeerMsg) → ((s : Session) → HasJoined sessions s → is_readable_session s ≡ true) → Brings servers sessions m → is_readable (msg.Peer m) ≡ true
+peer_readable : (servers : ℕ) (sessions : SessionStates) (m : PeerMsg)
+    → ((s : Session) → HasJoined sessions s → is_readable_session s ≡ true) → Brings servers sessions m → is_readable (msg.Peer m) ≡ true
 peer_readable servers sessions (OfParcel p) readable h = parcel_readable sessions p readable h
 peer_readable servers sessions (Prepare m) readable h = readable m.session h
 peer_readable servers sessions (Vote m) readable h = refl
 peer_readable servers sessions (Decide m) readable h = h
 peer_readable servers sessions (Done m) readable h = refl
 
-pub sent_readable : (servers : ℕ) (sessions : SessionStates) (k : ℕ) (x : Peer × Msg) → ((s : Session) → HasJoined sessions s → is_readable_session s ≡ true) → IsSent servers sessions k x → is_readable x.1 ≡ true
+pub sent_readable : (servers : ℕ) (sessions : SessionStates) (k : ℕ) (x : Peer × Msg)
+    → ((s : Session) → HasJoined sessions s → is_readable_session s ≡ true) → IsSent servers sessions k x → is_readable x.1 ≡ true
 sent_readable servers sessions k (Client s, msg.Answer a) readable h = h.2
 sent_readable servers sessions k (Client s, msg.Client m) readable h = absurd h
 sent_readable servers sessions k (Client s, msg.Peer m) readable h = absurd h
@@ -96,7 +100,8 @@ module _ (servers : ℕ) (sessions : SessionStates) (k : ℕ) where
 
   -- with other rows
   pub with_others : (s : Core) (rows : List Row) → Fine s → AreOf (HasJoined sessions) rows → Fine (record s { rows = rows })
-  with_others s rows h g = record { me = h.me; named = h.named; records = h.records; handles = h.handles; rows = g; leading = h.leading; ending = h.ending }
+  with_others s rows h g =
+      record { me = h.me; named = h.named; records = h.records; handles = h.handles; rows = g; leading = h.leading; ending = h.ending }
 
   pub strange_goes : (s : Core) → Fine s → Goes (strange s)
   strange_goes s h = record { server = h; sends = tt }
