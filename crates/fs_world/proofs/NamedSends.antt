@@ -11,14 +11,14 @@ use Rattle.fs_ident.proofs.Passing.{In-all}
 use Rattle.fs_ident.proofs.Same.{itself}
 use Rattle.fs_field.specs.declared.row.Row.{Row}
 use Rattle.fs_model.specs.declared.node.Handle.{Handle}
-use Rattle.fs_record.specs.Records.{IsRecord}
-use Rattle.fs_record.specs.declared.parcel.Parcel.{Parcel}
-use Rattle.fs_record.specs.declared.record.Record.{Record}
 use Rattle.fs_msg.specs.Readable.{is_readable, is_readable_answer, is_readable_parcel, is_readable_record}
 use Rattle.fs_msg.specs.declared.msg.Msg.{Msg}
 use Rattle.fs_msg.specs.declared.msg.Msg.TheVariants as msg
 use Rattle.fs_msg.specs.declared.peer_msg.PeerMsg.{PeerMsg}
 use Rattle.fs_msg.specs.declared.peer_msg.PeerMsg.TheVariants.{Parcel as OfParcel, Prepare, Vote, Decide, Done}
+use Rattle.fs_record.specs.Records.{IsRecord}
+use Rattle.fs_record.specs.declared.parcel.Parcel.{Parcel}
+use Rattle.fs_record.specs.declared.record.Record.{Record}
 use Rattle.fs_server.specs.Server.{Stepped, strange}
 use Rattle.fs_server.specs.declared.event.ServerEvent.{ServerEvent}
 use Rattle.fs_server.specs.declared.event.ServerEvent.TheVariants.{FromClient, FromPeer, Move, Recall, Turn}

@@ -289,8 +289,8 @@ module _ (servers : ℕ) (sessions : SessionStates) (k : ℕ) (some : k < server
       records = with_kept s.records p.records h.records of.each;
       handles = open_with p.records s.records of.handles h.handles;
       rows = put_all (HasJoined sessions) p.rows s.rows of.rows h.rows;
-    leading = h.leading;
-    ending = h.ending;
+      leading = h.leading;
+      ending = h.ending;
     };
     sends = tt;
   }

@@ -2,42 +2,37 @@
 use Rattle.std.proofs.Common.{◌≡◌, ◌≢◌, ◌<◌, ℕ, ◌+◌, Bool, true, false, List, [], ◌∷◌, ◌++◌, map, Option, Some, None, refl, sym, subst}
 use Rattle.std.proofs.Common.{cond, inl, inr, arith}
 use Rattle.std.specs.List.{AllByRecursion, list_all}
+use Rattle.std.specs.Prelude.{◌==◌, filter, slice_get}
 use Rattle.fs_ident.specs.declared.actor.Peer.{Peer}
 use Rattle.fs_ident.specs.declared.actor.Session.{Session}
-use Rattle.fs_ident.proofs.Booleans.{first}
-use Rattle.fs_field.specs.Table.{same_txn}
-use Rattle.fs_field.specs.declared.row.Row.{Row}
-use Rattle.fs_map.specs.Map.{server_of}
-use Rattle.fs_record.specs.Records.{RecordMap}
-use Rattle.fs_record.proofs.AllApplied.{after_all_kept}
-use Rattle.fs_msg.specs.declared.end.End.TheVariants as end
-use Rattle.fs_msg.specs.declared.lead.Lead.{Lead as ToLead}
-use Rattle.fs_msg.specs.declared.msg.Msg.{Msg}
-use Rattle.fs_msg.specs.declared.peer_msg.PeerMsg.{PeerMsg}
-use Rattle.fs_server.specs.Server.{Stepped, is_mine, strange}
-use Rattle.fs_server.specs.declared.state.Server.{Server as Core}
-use Rattle.fs_wire.specs.Readable.{is_readable_effect}
-use Rattle.fs_world.specs.Served.{SessionStates}
-use Rattle.fs_world.specs.Linked.{Brings, HasJoined, IsEndingOf, IsLeadingOf, IsNamedLed, IsNamedVote, IsServed}
-use Rattle.std.specs.Prelude.{◌==◌, filter, slice_get}
 use Rattle.fs_ident.specs.In.{In}
 use Rattle.fs_ident.specs.declared.actor.TxnNo.{TxnNo}
 use Rattle.fs_ident.proofs.Passing.{found}
 use Rattle.fs_ident.proofs.Standing.{In-more}
+use Rattle.fs_field.specs.Table.{same_txn}
+use Rattle.fs_field.specs.declared.row.Row.{Row}
 use Rattle.fs_field.specs.declared.effect.Effect.{Effect}
 use Rattle.fs_field.specs.declared.used.Part.{Part}
 use Rattle.fs_field.specs.declared.vote.Vote.{Vote}
 use Rattle.fs_field.specs.declared.vote.Vote.TheVariants as vote
+use Rattle.fs_map.specs.Map.{server_of}
+use Rattle.fs_msg.specs.declared.lead.Lead.{Lead as ToLead}
+use Rattle.fs_msg.specs.declared.msg.Msg.{Msg}
+use Rattle.fs_msg.specs.declared.peer_msg.PeerMsg.{PeerMsg}
 use Rattle.fs_msg.specs.declared.decide.Decide.{Decide}
 use Rattle.fs_msg.specs.declared.done.Done.{Done}
 use Rattle.fs_msg.specs.declared.prepare.Prepare.{Prepare}
 use Rattle.fs_msg.specs.declared.server_note.ServerNote.{ServerNote}
 use Rattle.fs_msg.specs.declared.server_note.ServerNote.TheVariants as note
 use Rattle.fs_msg.specs.declared.voted.Voted.{Voted}
+use Rattle.fs_record.specs.Records.{RecordMap}
+use Rattle.fs_record.proofs.AllApplied.{after_all_kept}
 use Rattle.fs_record.specs.Applied.{is_undoable, records_after_all, takes_away}
 use Rattle.fs_record.specs.declared.led_end.LedEnd.{LedEnd}
 use Rattle.fs_serial.proofs.Lists.SetAt.{In_set}
 use Rattle.fs_serial.proofs.Transactions.PlacesAfter.{AreRelocked, locked_so, unlocked_so, unlocked_unless, vote_names, voted_so}
+use Rattle.fs_server.specs.Server.{Stepped, is_mine, strange}
+use Rattle.fs_server.specs.declared.state.Server.{Server as Core}
 use Rattle.fs_server.specs.Begins.{Round, asked_part, begins, first_round, leader_with, own_part, part_round, parts_in, round_of, rounds}
 use Rattle.fs_server.specs.Begins.{txn_of}
 use Rattle.fs_server.specs.Concludes.{concludes, ends_now, goes_on, keeps_for, tells, waits}
@@ -53,6 +48,9 @@ use Rattle.fs_txn.specs.declared.decision.Decision.{Decision}
 use Rattle.fs_txn.specs.declared.leading.Ending.{Ending}
 use Rattle.fs_txn.specs.declared.leading.Leading.{Leading}
 use Rattle.fs_txn.specs.declared.ready.Ready.{Ready}
+use Rattle.fs_wire.specs.Readable.{is_readable_effect}
+use Rattle.fs_world.specs.Served.{SessionStates}
+use Rattle.fs_world.specs.Linked.{Brings, HasJoined, IsEndingOf, IsLeadingOf, IsNamedLed, IsNamedVote, IsServed}
 use Rattle.fs_world.proofs.NamedLeading.{AreNamedVotes, TellsOpen, decision_ends, decision_tells, elsewhere_at, ending_more, leading_less}
 use Rattle.fs_world.proofs.NamedLeading.{leading_more, own_tellable, read_open, relocked_of, tellable_open, tellable_read, votes_named}
 use Rattle.fs_world.proofs.NamedMaps.{server_named}
