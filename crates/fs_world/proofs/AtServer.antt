@@ -19,7 +19,7 @@ use Rattle.fs_server.specs.declared.state.Server.{Server as Core}
 use Rattle.fs_window.specs.Post.{Links, post_accepted}
 use Rattle.fs_window.specs.declared.packet.Packet.{Packet}
 use Rattle.fs_world.specs.Calls.{server_left, world_left}
-use Rattle.fs_world.specs.Linked.{FitsDown, IsLinked, BringsParcel}
+use Rattle.fs_world.specs.Linked.{Brings, FitsDown, IsLinked}
 use Rattle.fs_world.specs.Packets.{Packets}
 use Rattle.fs_world.specs.Planned.{IsAnswered, IsOwn, WasSent}
 use Rattle.fs_world.specs.Served.{SessionStates, ServerStepped, Stepped, at_server, core_step, server_step, server_step_at, server_receive_packet_at, with_server}
@@ -88,15 +88,15 @@ receive_packet_after (Err o) w new k now from p x fits h is = tt
 
 -- ## Parcels on their way
 
-brought : (sessions : SessionStates) (m : PeerMsg) (p : Parcel) → parcel_in m ≡ Some p → BringsParcel sessions m → IsParcelOf sessions p
-brought sessions (OfParcel q) p e h = let same : q ≡ p = cc in subst (IsParcelOf sessions) same h
-brought sessions (Prepare m) p e h = absurd h
-brought sessions (Vote m) p e h = absurd h
-brought sessions (Decide m) p e h = absurd h
-brought sessions (Done m) p e h = absurd h
+brought : (servers : ℕ) (sessions : SessionStates) (m : PeerMsg) (p : Parcel) → parcel_in m ≡ Some p → Brings servers sessions m → IsParcelOf sessions p
+brought servers sessions (OfParcel q) p e h = let same : q ≡ p = cc in subst (IsParcelOf sessions) same h
+brought servers sessions (Prepare m) p e h = absurd (cc)
+brought servers sessions (Vote m) p e h = absurd (cc)
+brought servers sessions (Decide m) p e h = absurd (cc)
+brought servers sessions (Done m) p e h = absurd (cc)
 
 pub parcels_apart : (w : Served) → IsLinked w → (parcels : List Parcel) → parcels ≡ parcels_of w.in_flight → (p : Parcel) → In p parcels → AreEachRecords p.records
 parcels_apart w h parcels is p i =
     let q = parcel_flies p w.in_flight (subst (λ (ps : List Parcel). In p ps) is i) in
-    let own : IsParcelOf w.sessions p = brought w.sessions q.0.message p q.1.1 (h.in_flight q.0 q.1.0).parcel in
+    let own : IsParcelOf w.sessions p = brought (length w.servers) w.sessions q.0.message p q.1.1 (h.in_flight q.0 q.1.0).brings in
     own.each

@@ -13,6 +13,9 @@ mod GoesAlone
 pub mod OpenHandles
 pub mod NamedMaps
 pub mod NamedClients
+pub mod NamedLeading
+pub mod NamedSends
+pub mod NamedTransactions
 pub mod NamedServers
 pub mod LinkedLists
 pub mod Heard

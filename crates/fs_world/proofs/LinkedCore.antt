@@ -48,7 +48,7 @@ use Rattle.fs_world.proofs.LinkedFirst.{AllSoundStates, carried_then, posts_ther
 use Rattle.fs_world.proofs.LinkedSession.{packet_of, went}
 use Rattle.fs_world.proofs.Seen.{joined_still}
 use Rattle.fs_world.proofs.SeenSends.{downs_joined}
-use Rattle.fs_world.proofs.ServerBrings.{AreBrought, IsSender, as_brought, brought_still, next_brought}
+use Rattle.fs_world.proofs.ServerBrings.{AreBrought, IsSender, brought_still, next_brought}
 use Rattle.fs_world.proofs.ServerEach.{AreWritten, HaveRoom, answered_room, answered_written, due_out, heard_is, taking, taking_all}
 use Rattle.fs_world.proofs.ServerNext.{AreNext, events_in}
 
@@ -174,7 +174,7 @@ module _ (w : Served) (k : ℕ) (few : k < length w.servers) (h : IsLinked w) wh
   flying_carried sessions ((Server to, msg.Peer m) ∷ xs) sent f (inr i) = flying_carried sessions xs sent.1 f i
 
   -- its core takes the step, and what that sends is on its way
-  pub step_taken : (x : ServerStepped) (now : ℕ) (e : ServerEvent) → IsBrought server_count x.sessions x.server e → FitsDown (step x.server now e).out.send → is_full_down (step x.server now e).out.send x.post ≡ false
+  pub step_taken : (x : ServerStepped) (now : ℕ) (e : ServerEvent) → IsBrought server_count x.sessions k e → FitsDown (step x.server now e).out.send → is_full_down (step x.server now e).out.send x.post ≡ false
       → IsGoing w k x → IsGoing w k (taking k now e x)
   step_taken x now e brought fits room g =
       let y : CoreStepped = step x.server now e in
@@ -195,7 +195,7 @@ module _ (w : Served) (k : ℕ) (few : k < length w.servers) (h : IsLinked w) wh
           let b = record x { server = server; post = post; sessions = sessions; in_flight = in_flight; journal = journal } in
           tied_alike (serving k a w) (serving k b w) refl refl refl refl t
 
-  pub core_goes : (x : ServerStepped) (turn : Bool) (heard : Option Peer) (now : ℕ) (e : ServerEvent) → IsOther server_count x.sessions k heard → IsBrought server_count x.sessions x.server e → FitsDown (step x.server now e).out.send → is_full_down (step x.server now e).out.send x.post ≡ false
+  pub core_goes : (x : ServerStepped) (turn : Bool) (heard : Option Peer) (now : ℕ) (e : ServerEvent) → IsOther server_count x.sessions k heard → IsBrought server_count x.sessions k e → FitsDown (step x.server now e).out.send → is_full_down (step x.server now e).out.send x.post ≡ false
       → IsGoing w k x → IsGoing w k (core_step k turn heard now e x)
   core_goes x turn heard now e of brought fits room g =
       let y : CoreStepped = step x.server now e in
@@ -206,11 +206,11 @@ module _ (w : Served) (k : ℕ) (few : k < length w.servers) (h : IsLinked w) wh
   -- ## A packet comes
 
   -- the steps at all that it brings, one after another
-  steps_taken : (es : List ServerEvent) (x : ServerStepped) (now : ℕ) → AreBrought x.sessions es → HaveRoom now es x.server x.post → AreWritten now es x.server → IsGoing w k x → IsGoing w k (taking_all k now es x)
+  steps_taken : (es : List ServerEvent) (x : ServerStepped) (now : ℕ) → AreBrought server_count x.sessions k es → HaveRoom now es x.server x.post → AreWritten now es x.server → IsGoing w k x → IsGoing w k (taking_all k now es x)
   steps_taken [] x now brought room fits g = g
   steps_taken (e ∷ es) x now brought room fits g =
-      steps_taken es (taking k now e x) now (brought_still x.sessions (taking k now e x).sessions es (downs_joined k (step x.server now e).out.send x.sessions) brought.1) room.1 fits.1
-      (step_taken x now e (as_brought server_count x.sessions x.server e brought.0) fits.0 room.0 g)
+      steps_taken es (taking k now e x) now (brought_still server_count x.sessions (taking k now e x).sessions k es (downs_joined k (step x.server now e).out.send x.sessions) brought.1) room.1 fits.1
+      (step_taken x now e brought.0 fits.0 room.0 g)
 
   -- whatever is noted
   goes_out : (x : ServerStepped) (replied : Option Peer) (notes : List Note) (spent : Option Counter) → IsOther server_count x.sessions k replied → IsGoing w k x → IsGoing w k (due_out k replied notes spent x)
@@ -231,19 +231,19 @@ module _ (w : Served) (k : ℕ) (few : k < length w.servers) (h : IsLinked w) wh
       → IsGoing w k x → IsAnswered now from heard.joined x → IsGoing w k (server_heard now k from replied heard x)
   all_heard x from now replied heard of sender first g answered =
       let es = events_in w k from heard.joined first in
-      let brought = brought_still w.sessions x.sessions es.0 g.joined (next_brought server_count k from es.0 w.sessions w.sessions w.in_flight sender h.in_flight es.2) in
+      let brought = brought_still server_count w.sessions x.sessions k es.0 g.joined (next_brought server_count k from es.0 w.sessions w.sessions w.in_flight sender h.in_flight es.2) in
       let then = steps_taken es.0 x now brought (answered_room now from heard.joined es.0 x es.1 answered) (answered_written now from heard.joined es.0 x es.1 answered) g in
       subst (IsGoing w k) (sym (heard_is k now from replied heard es.0 x es.1))
       (goes_out (taking_all k now es.0 x) replied _ _ (other_still server_count w.sessions (taking_all k now es.0 x).sessions k replied then.joined of) then)
 
 -- ## An event of a server
 
-pub own_brought : (servers : ℕ) (sessions : SessionStates) (c : Core) (e : ServerEvent) → IsOwn servers e → IsBrought servers sessions c e
-own_brought servers sessions c Turn own = tt
-own_brought servers sessions c (Recall field) own = tt
-own_brought servers sessions c (Move prefix to) own = own
-own_brought servers sessions c (FromClient by m) own = absurd own
-own_brought servers sessions c (FromPeer from m) own = absurd own
+pub own_brought : (servers : ℕ) (sessions : SessionStates) (k : ℕ) (e : ServerEvent) → IsOwn servers e → IsBrought servers sessions k e
+own_brought servers sessions k Turn own = tt
+own_brought servers sessions k (Recall field) own = tt
+own_brought servers sessions k (Move prefix to) own = own
+own_brought servers sessions k (FromClient by m) own = absurd own
+own_brought servers sessions k (FromPeer from m) own = absurd own
 
 pub server_linked : (w : Served) (k : ℕ) (c : Core) (post : Links) (turn : Bool) (now : ℕ) (e : ServerEvent) → slice_get w.servers k ≡ Some c → slice_get w.posts k ≡ Some post → IsOwn (length w.servers) e
     → FitsDown (step c now e).out.send → is_full_down (step c now e).out.send post ≡ false → IsLinked w → IsLinked (server_step k turn now e w).world
@@ -252,7 +252,7 @@ server_linked w k c post turn now e i j own fits room h =
     let x : ServerStepped = at_server c post w in
     subst (λ (o : Option Core). IsLinked (server_step_at o (slice_get w.posts k) k turn now e w).world) (sym i)
     (subst (λ (o : Option Links). IsLinked (server_step_at (Some c) o k turn now e w).world) (sym j)
-    (going_linked w k (core_step k turn None now e x) few (core_goes w k few h x turn None now e tt (own_brought (length w.servers) w.sessions c e own) fits room (begins w k c post i j h)) h))
+    (going_linked w k (core_step k turn None now e x) few (core_goes w k few h x turn None now e tt (own_brought (length w.servers) w.sessions k e own) fits room (begins w k c post i j h)) h))
 
 -- ## A packet comes to a server
 
@@ -352,7 +352,7 @@ sender_there w k (Server i) p x h =
     let g = went w (Server i) (Server k) p x h in
     ((subst (λ (m : ℕ). i < m) h.posts (within w.posts i g.from.0 g.from.1), g.apart), tt)
 
-pub receive_packet_server_brought : (w : Served) (k : ℕ) (post : Links) (from : Peer) (p : Packet) (es : List ServerEvent) → WasSent from (Server k) (Some p) w.packets.sent → IsLinked w → AreNext k from es w.sessions w.in_flight → AreBrought w.sessions es
+pub receive_packet_server_brought : (w : Served) (k : ℕ) (post : Links) (from : Peer) (p : Packet) (es : List ServerEvent) → WasSent from (Server k) (Some p) w.packets.sent → IsLinked w → AreNext k from es w.sessions w.in_flight → AreBrought (length w.servers) w.sessions k es
 receive_packet_server_brought w k post from p es x h next = next_brought (length w.servers) k from es w.sessions w.sessions w.in_flight (sender_there w k from p x h).1 h.in_flight next
 
 pub receive_packet_server_linked : (w : Served) (k : ℕ) (c : Core) (post : Links) (now : ℕ) (from : Peer) (p : Packet) → slice_get w.servers k ≡ Some c → slice_get w.posts k ≡ Some post → WasSent from (Server k) (Some p) w.packets.sent

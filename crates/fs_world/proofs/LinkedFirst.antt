@@ -15,7 +15,7 @@ use Rattle.fs_serial.specs.Cluster.{first_servers}
 use Rattle.fs_serial.specs.declared.in_flight.InFlight.{InFlight}
 use Rattle.fs_server.specs.Server.{first_server}
 use Rattle.fs_server.specs.declared.state.Server.{Server as Core}
-use Rattle.fs_world.specs.Linked.{AreTied, HasJoined, IsCarried, IsLinked, IsPair, IsPost, IsSoundState, IsServed, between, downs_of, post_of, state_post, ups_of, BringsParcel}
+use Rattle.fs_world.specs.Linked.{AreTied, Brings, HasJoined, IsCarried, IsLinked, IsPair, IsPost, IsSoundState, IsServed, between, downs_of, post_of, state_post, ups_of}
 use Rattle.fs_world.specs.Packets.{with_delivered}
 use Rattle.fs_world.specs.Served.{SessionStates, first_posts, first_session_state, first_served, join_at, link_width}
 use Rattle.fs_world.specs.declared.servers.session_state.SessionState.{SessionState}
@@ -35,18 +35,26 @@ use Rattle.fs_msg.specs.declared.peer_msg.PeerMsg.TheVariants.{Parcel as OfParce
 -- ## Whoever has joined stays
 
 pub served_then : (servers : ℕ) (a b : SessionStates) (k : ℕ) (s : Core) → ((t : Session) → HasJoined a t → HasJoined b t) → IsServed servers a k s → IsServed servers b k s
-served_then servers a b k s g h = record { me = h.me; named = h.named; records = h.records; handles = h.handles; rows = λ row i. g row.session (h.rows row i) }
+served_then servers a b k s g h = record {
+  me = h.me;
+  named = h.named;
+  records = h.records;
+  handles = h.handles;
+  rows = λ row i. g row.session (h.rows row i);
+  leading = λ l i. let own = h.leading l i in record { session = g l.leader.session own.session; at = own.at; votes = own.votes };
+  ending = λ x i. let own = h.ending x i in record { session = g x.session own.session; end = own.end };
+}
 
-pub brings_then : (a b : SessionStates) (m : PeerMsg) → ((t : Session) → HasJoined a t → HasJoined b t) → BringsParcel a m
-    → BringsParcel b m
-brings_then a b (OfParcel p) g h = record { each = h.each; handles = h.handles; rows = λ row i. g row.session (h.rows row i) }
-brings_then a b (Prepare m) g h = h
-brings_then a b (Vote m) g h = h
-brings_then a b (Decide m) g h = h
-brings_then a b (Done m) g h = h
+brings_then : (servers : ℕ) (a b : SessionStates) (m : PeerMsg) → ((t : Session) → HasJoined a t → HasJoined b t) → Brings servers a m
+    → Brings servers b m
+brings_then servers a b (OfParcel p) g h = record { each = h.each; handles = h.handles; rows = λ row i. g row.session (h.rows row i) }
+brings_then servers a b (Prepare m) g h = g m.session h
+brings_then servers a b (Vote m) g h = h
+brings_then servers a b (Decide m) g h = h
+brings_then servers a b (Done m) g h = h
 
 pub carried_then : (servers : ℕ) (a b : SessionStates) (f : InFlight) → ((t : Session) → HasJoined a t → HasJoined b t) → IsCarried servers a f → IsCarried servers b f
-carried_then servers a b f g h = record { from = h.from; to = h.to; apart = h.apart; parcel = brings_then a b f.message g h.parcel }
+carried_then servers a b f g h = record { from = h.from; to = h.to; apart = h.apart; brings = brings_then servers a b f.message g h.brings }
 
 abbrev pub AllSoundStates : ℕ → SessionStates → Type 0
 AllSoundStates servers sessions = AtAll (IsSoundState servers) sessions

@@ -1,59 +1,44 @@
 -- What a server has and sends: it knows of servers that there are, has rows of sessions that have joined, and its handles
 -- can be told; what it sends goes to such sessions and to other servers, and can be read.
-use Rattle.std.proofs.Common.{◌≡◌, ◌≢◌, ◌⊎◌, ◌∙◌, ◌<◌, ◌≤◌, ◌^◌, ℕ, ◌+◌, Bool, true, false, List, [], ◌∷◌, ◌++◌, map, not, Option, Some, None, refl, sym, ap, subst, cond, inl, inr, arith}
-use Rattle.std.specs.Prelude.{◌&&◌, ◌==◌, nat_le}
+use Rattle.std.proofs.Common.{◌≡◌, ◌⊎◌, ◌<◌, ℕ, ◌+◌, Bool, true, false, List, [], ◌∷◌, ◌++◌, map, not, Option, Some, None, refl, sym, subst, cond, inl, inr, arith}
+use Rattle.std.specs.Prelude.{◌==◌}
 use Rattle.std.specs.FinMap.{empty, get}
 use Rattle.std.specs.List.{AllByRecursion, list_all}
-use Rattle.std.proofs.lemmas.Bool.Decides.{nat_tests}
 use Rattle.fs_ident.specs.Ident.{child}
 use Rattle.fs_ident.specs.declared.actor.LeaseNo.{LeaseNo}
-use Rattle.fs_ident.specs.declared.actor.Peer.{Peer}
-use Rattle.fs_ident.specs.declared.actor.Peer.TheVariants.{Client, Server}
+use Rattle.fs_ident.specs.declared.actor.Peer.TheVariants.{Client}
 use Rattle.fs_ident.specs.declared.actor.Session.{Session}
 use Rattle.fs_ident.proofs.Booleans.{first, joined, second}
-use Rattle.fs_ident.proofs.Passing.{In-all}
-use Rattle.fs_ident.proofs.Same.{itself}
 use Rattle.fs_field.specs.After.{Handles}
 use Rattle.fs_field.specs.Field.{file_of}
 use Rattle.fs_field.specs.Table.{borne_numbers, is_live}
-use Rattle.fs_field.specs.declared.asked.Asked.{Asked}
-use Rattle.fs_field.specs.declared.asked.Asked.TheVariants.{Granted, Wait, Locked}
 use Rattle.fs_field.specs.declared.effect.Effect.TheVariants.{RemoveHandle}
 use Rattle.fs_field.specs.declared.field.Field.{Field}
 use Rattle.fs_field.specs.declared.field.Field.TheVariants.{Life}
 use Rattle.fs_field.specs.declared.lease_kind.LeaseKind.{LeaseKind}
 use Rattle.fs_field.specs.declared.lease_kind.LeaseKind.TheVariants.{Exclusive}
-use Rattle.fs_field.specs.declared.row.Row.{Row}
-use Rattle.fs_field.specs.declared.used.Use.{Use}
 use Rattle.fs_map.specs.Lists.{piece_of}
 use Rattle.fs_map.specs.Map.{longest}
-use Rattle.fs_model.specs.declared.node.Handle.{Handle}
-use Rattle.fs_moderows.specs.Answer.{reap_blocker}
 use Rattle.fs_parcel.specs.Parcel.{move_refusal, not_mine}
 use Rattle.fs_parcel.specs.declared.error.MoveError.{MoveError}
 use Rattle.fs_parcel.specs.declared.error.MoveError.TheVariants as move
 use Rattle.fs_record.specs.Effects.{effects_of, reap_effects, tells_its_effects}
 use Rattle.fs_record.specs.Fresh.{fresh_number, is_directory, records_after_gift}
-use Rattle.fs_record.specs.LedEffects.{led_effects}
-use Rattle.fs_record.specs.Moving.{AreEachRecords}
-use Rattle.fs_record.specs.Records.{AreRecords, IsRecord, first_records, node_of, root_record}
-use Rattle.fs_record.specs.ValueOf.{handles_of, own_of, selves_in}
+use Rattle.fs_record.specs.Records.{AreRecords, first_records, node_of, root_record}
+use Rattle.fs_record.specs.ValueOf.{handles_of, own_of}
 use Rattle.fs_record.specs.declared.led_end.LedEnd.TheVariants as led_end
 use Rattle.fs_record.specs.declared.led_end.Why.{Why}
 use Rattle.fs_record.specs.declared.led_end.Why.TheVariants as why
 use Rattle.fs_record.specs.declared.parcel.Parcel.{Parcel}
-use Rattle.fs_record.specs.declared.record.Record.{Record}
 use Rattle.fs_record.proofs.AllApplied.{after_all_kept}
 use Rattle.fs_record.proofs.Coming.{left_kept, with_kept}
 use Rattle.fs_record.proofs.Kept.{given_kept, kept_empty, kept_insert, root_kept}
 use Rattle.fs_record.proofs.Returning.{given_each}
 use Rattle.fs_rows.specs.Moving.{is_on_given}
 use Rattle.fs_model.specs.Asking.{home_of}
-use Rattle.fs_model.specs.declared.op.Op.{Op}
 use Rattle.fs_model.specs.declared.op.Op.TheVariants as op
-use Rattle.fs_model.specs.declared.reply.Reply.{Reply}
 use Rattle.fs_model.specs.declared.reply.Reply.TheVariants as reply
-use Rattle.fs_msg.specs.Readable.{is_readable, is_readable_answer, is_readable_entry, is_readable_grant, is_readable_parcel, is_readable_record}
+use Rattle.fs_msg.specs.Readable.{is_readable, is_readable_entry, is_readable_grant}
 use Rattle.fs_msg.specs.declared.answer.Grant.{Grant}
 use Rattle.fs_msg.specs.declared.client_msg.ClientMsg.{ClientMsg}
 use Rattle.fs_msg.specs.declared.client_msg.ClientMsg.TheVariants.{Ask, Renew, Release, Ship, Lead}
@@ -62,93 +47,31 @@ use Rattle.fs_msg.specs.declared.end.End.TheVariants as end
 use Rattle.fs_msg.specs.declared.entry.Entry.{Entry}
 use Rattle.fs_msg.specs.declared.item.Item.{Item}
 use Rattle.fs_msg.specs.declared.lead.Lead.{Lead as ToLead}
-use Rattle.fs_msg.specs.declared.msg.Msg.{Msg}
 use Rattle.fs_msg.specs.declared.msg.Msg.TheVariants as msg
 use Rattle.fs_msg.specs.declared.peer_msg.PeerMsg.{PeerMsg}
 use Rattle.fs_msg.specs.declared.peer_msg.PeerMsg.TheVariants.{Parcel as OfParcel, Prepare, Vote, Decide, Done}
-use Rattle.fs_server.proofs.Leading.{LeadEnds, aborted, lead_ends, led, put_off, refusal_is, unled}
+use Rattle.fs_server.proofs.Leading.{LeadEnds, begun as begins_to_lead, lead_ends, put_off, refusal_is, unled}
 use Rattle.fs_server.proofs.OneByOne.{AskEnds, ShipEnds, each_entry, each_item, each_lapsed, elsewhere, kept_off, misplaced, refused, waits}
-use Rattle.fs_server.specs.Asks.{Asking, answer_to, ask_fresh, ask_from, ask_step, asked_in, fresh_for, fresh_in, fresh_of, grant_of, kind_for, with_lease}
-use Rattle.fs_server.specs.Leads.{lead_refusal, lead_step, moved_why, reply_of}
+use Rattle.fs_server.specs.Asks.{Asking, ask_fresh, ask_from, ask_step, asked_in, fresh_for, fresh_in, fresh_of, grant_of, kind_for, with_lease}
+use Rattle.fs_server.specs.Leads.{lead_refusal, lead_step, moved_why}
 use Rattle.fs_server.specs.Moves.{fits_here, move_at, parcel_at, peer_step}
 use Rattle.fs_server.specs.Pairs.{numbers_in, pairs_end, pairs_here, released_rows, renewed_rows}
-use Rattle.fs_server.specs.Reaps.{Reaping, lapsed_in, reap_from, reap_item, turn_over, with_blocker, with_reap}
+use Rattle.fs_server.specs.Reaps.{Reaping, lapsed_in, reap_from, turn_over}
 use Rattle.fs_server.specs.Server.{Stepped, begun, end_of, first_server, is_mine, moved, strange}
-use Rattle.fs_server.specs.Ships.{Shipping, first_gone, item_of, ship_from, ship_step, shipped, with_entry}
+use Rattle.fs_server.specs.Ships.{Shipping, ship_from, ship_step, shipped}
 use Rattle.fs_server.specs.Step.{event_step, message_step, step}
 use Rattle.fs_server.specs.declared.event.ServerEvent.{ServerEvent}
 use Rattle.fs_server.specs.declared.event.ServerEvent.TheVariants.{FromClient, FromPeer, Move, Recall, Turn}
 use Rattle.fs_server.specs.declared.state.Server.{Server as Core}
-use Rattle.fs_wire.specs.Readable.{is_readable_handle, is_readable_row, is_readable_session}
-use Rattle.fs_world.specs.Linked.{AreOfJoined, HasJoined, IsCarried, IsNamedAnswer, IsNamedEnd, IsNamedLed, IsParcelOf, IsServed, BringsParcel}
-use Rattle.fs_world.specs.Readable.{HasOpenHandles, RecordsOpen}
+use Rattle.fs_wire.specs.Readable.{is_readable_session}
+use Rattle.fs_world.specs.Linked.{HasJoined, IsCarried, IsNamedEnd, IsNamedLed, IsParcelOf, IsServed}
+pub use Rattle.fs_world.proofs.NamedSends.{AreSent, IsBrought, IsSent, IsStepped, in_range, sent_readable}
+use Rattle.fs_world.proofs.NamedSends.{either_goes, differ, strange_goes, with_others}
+use Rattle.fs_world.proofs.NamedTransactions.{begin_goes, decide_goes, prepare_goes, told_goes, vote_goes}
 use Rattle.fs_world.specs.Served.{SessionStates}
 use Rattle.fs_world.proofs.NamedMaps.{moved_named, named_first, named_give, named_take, why_named}
 use Rattle.fs_world.proofs.OpenHandles.{AddsOpen, effects_open, first_open, open_after_all, open_after_gift, open_given, open_left, open_with, value_open}
-use Rattle.fs_world.proofs.SeenRows.{AreOf, filtered, put, put_all, recall_sent, recalled_at, recalled_for, released, renewed}
-
--- ## What is sent
-
--- an answer to a session that has joined, which names servers that there are and can be read, or a message for another server
-abbrev pub IsSent : ℕ → SessionStates → ℕ → Peer × Msg → Type 0
-IsSent servers sessions k (Client s, msg.Answer a) = HasJoined sessions s × IsNamedAnswer servers a × (is_readable_answer a ≡ true)
-IsSent servers sessions k (Server to, msg.Peer m) = IsCarried servers sessions (record { from = k; to = to; message = m })
-IsSent servers sessions k x = ⊥
-
-abbrev pub AreSent : ℕ → SessionStates → ℕ → List (Peer × Msg) → Type 0
-AreSent servers sessions k messages = AllByRecursion (IsSent servers sessions k) messages
-
--- a step leaves such a server, and sends such messages
-pub record IsStepped (servers : ℕ) (sessions : SessionStates) (k : ℕ) (x : Stepped) : Type 0 where
-  pub server : IsServed servers sessions k x.server
-  pub sends : AreSent servers sessions k x.out.send
-
--- what the event brings is of a session that has joined, and can be read; or a server sent it
-abbrev pub IsBrought : ℕ → SessionStates → Core → ServerEvent → Type 0
-IsBrought servers sessions s (FromClient by m) = HasJoined sessions by × (is_readable (msg.Client m) ≡ true)
-IsBrought servers sessions s (FromPeer from m) = BringsParcel sessions m
-IsBrought servers sessions s (Move prefix to) = to < servers
-IsBrought servers sessions s Turn = Unit {0}
-IsBrought servers sessions s (Recall field) = Unit {0}
-
--- ## What is sent can be read
-
-handles_pass : (hs : List Handle) → AllByRecursion (λ (h : Handle). is_readable_handle h ≡ true) hs → list_all is_readable_handle hs ≡ true
-handles_pass [] h = refl
-handles_pass (x ∷ xs) h = joined _ _ h.0 (handles_pass xs h.1)
-
--- a number in a range passes the test for it
-pub in_range : (n least most : ℕ) → least ≤ n → n ≤ most → (nat_le least n && nat_le n most) ≡ true
-in_range n least most some few = grind (arith, nat_tests)
-
-record_passes : (r : Record) → HasOpenHandles r → IsRecord r → is_readable_record r ≡ true
-record_passes r h own = joined _ _ (handles_pass r.node.handles h) (in_range r.next 1 (2 ^ 32) own.least own.most)
-
-parcel_readable : (sessions : SessionStates) (p : Parcel) → ((s : Session) → HasJoined sessions s → is_readable_session s ≡ true) → IsParcelOf sessions p → is_readable_parcel p ≡ true
-parcel_readable sessions p readable h =
-    joined _ _ (In-all (λ (e : List ℕ × Record). is_readable_record e.1) p.records (λ e i. record_passes e.1 (h.handles e i) (h.each e i)))
-    (In-all is_readable_row p.rows (λ row i. readable row.session (h.rows row i)))
-
-peer_readable : (sessions : SessionStates) (m : PeerMsg) → ((s : Session) → HasJoined sessions s → is_readable_session s ≡ true) → BringsParcel sessions m → is_readable (msg.Peer m) ≡ true
-peer_readable sessions (OfParcel p) readable h = parcel_readable sessions p readable h
-peer_readable sessions (Prepare m) readable h = absurd h
-peer_readable sessions (Vote m) readable h = absurd h
-peer_readable sessions (Decide m) readable h = absurd h
-peer_readable sessions (Done m) readable h = absurd h
-
-pub sent_readable : (servers : ℕ) (sessions : SessionStates) (k : ℕ) (x : Peer × Msg) → ((s : Session) → HasJoined sessions s → is_readable_session s ≡ true) → IsSent servers sessions k x → is_readable x.1 ≡ true
-sent_readable servers sessions k (Client s, msg.Answer a) readable h = h.2
-sent_readable servers sessions k (Client s, msg.Client m) readable h = absurd h
-sent_readable servers sessions k (Client s, msg.Peer m) readable h = absurd h
-sent_readable servers sessions k (Server to, msg.Answer a) readable h = absurd h
-sent_readable servers sessions k (Server to, msg.Client m) readable h = absurd h
-sent_readable servers sessions k (Server to, msg.Peer m) readable h = peer_readable sessions m readable h.parcel
-
--- a rename and a delete add no handle
-led_open : (o : Op) (file : List ℕ) (r : Reply) → AllByRecursion AddsOpen (led_effects o file r)
-led_open (op.Rename sdir sname ddir dname) file reply.Renamed = (tt, (tt, (tt, tt)))
-led_open (op.Delete dir name) file reply.Deleted = (tt, (tt, tt))
-led_open o file r = tt
+use Rattle.fs_world.proofs.SeenRows.{filtered, put, put_all, recall_sent, recalled_at, recalled_for, released, renewed}
 
 -- ## Steps
 
@@ -158,7 +81,7 @@ first_kept false = kept_empty
 
 pub first_served_core : (servers : ℕ) (sessions : SessionStates) (k skew term : ℕ) → 0 < servers
     → IsServed servers sessions k (first_server k skew term)
-first_served_core servers sessions k skew term some = record { me = refl; named = named_first servers some; records = first_kept (k == 0); handles = first_open (k == 0); rows = λ row i. absurd i }
+first_served_core servers sessions k skew term some = record { me = refl; named = named_first servers some; records = first_kept (k == 0); handles = first_open (k == 0); rows = λ row i. absurd i; leading = λ l i. absurd i; ending = λ x i. absurd i }
 
 module _ (servers : ℕ) (sessions : SessionStates) (k : ℕ) (some : k < servers) (readable : (s : Session) → HasJoined sessions s → is_readable_session s ≡ true) where
   abbrev Fine : Core → Type 0
@@ -167,27 +90,16 @@ module _ (servers : ℕ) (sessions : SessionStates) (k : ℕ) (some : k < server
   abbrev Goes : Stepped → Type 0
   Goes x = IsStepped servers sessions k x
 
-  -- with other rows, or other records
-  with_others : (s : Core) (rows : List Row) → Fine s → AreOf (HasJoined sessions) rows → Fine (record s { rows = rows })
-  with_others s rows h g = record { me = h.me; named = h.named; records = h.records; handles = h.handles; rows = g }
-
   begun_fine : (now : ℕ) (s : Core) → Fine s → Fine (begun now s)
-  begun_fine now s h = record { me = h.me; named = h.named; records = h.records; handles = h.handles; rows = filtered (HasJoined sessions) (is_live (begun now s).last s.skew) s.rows h.rows }
+  begun_fine now s h = record { me = h.me; named = h.named; records = h.records; handles = h.handles; rows = filtered (HasJoined sessions) (is_live (begun now s).last s.skew) s.rows h.rows; leading = h.leading; ending = h.ending }
 
   moved_end : (s : Core) (id : List ℕ) → Fine s → IsNamedEnd servers (moved s id)
   moved_end s id h = moved_named servers s id (omega (arith, some)) h.named
 
-  strange_goes : (s : Core) → Fine s → Goes (strange s)
-  strange_goes s h = record { server = h; sends = tt }
-
-  either_goes : (b : Bool) (x y : Stepped) → Goes x → Goes y → Goes (cond b x y)
-  either_goes true x y h g = h
-  either_goes false x y h g = g
-
   -- ## A question
 
   lease_fine : (by : Session) (field : Field) (kind : LeaseKind) (promise : Option Bool) (s : Core) → HasJoined sessions by → Fine s → Fine (with_lease by field kind promise s)
-  lease_fine by field kind promise s of h = record { me = h.me; named = h.named; records = h.records; handles = h.handles; rows = put (HasJoined sessions) _ s.rows of h.rows }
+  lease_fine by field kind promise s of h = record { me = h.me; named = h.named; records = h.records; handles = h.handles; rows = put (HasJoined sessions) _ s.rows of h.rows; leading = h.leading; ending = h.ending }
 
   -- the server, and the answer so far
   record IsAsking (a : Asking) : Type 0 where
@@ -221,7 +133,7 @@ module _ (servers : ℕ) (sessions : SessionStates) (k : ℕ) (some : k < server
   fresh_fine by dir borne (Some n) a is of h =
       let lent = lease_fine by (Life (child dir n)) Exclusive None a.server of h.server in
       record {
-        server = record { me = lent.me; named = lent.named; records = subst (λ (o : Option ℕ). AreRecords (records_after_gift a.server.records dir o)) is (given_kept a.server.records dir borne h.server.records); handles = open_after_gift a.server.records dir n h.server.handles; rows = lent.rows };
+        server = record { me = lent.me; named = lent.named; records = subst (λ (o : Option ℕ). AreRecords (records_after_gift a.server.records dir o)) is (given_kept a.server.records dir borne h.server.records); handles = open_after_gift a.server.records dir n h.server.handles; rows = lent.rows; leading = lent.leading; ending = lent.ending };
         grants = one_grant a.grants (grant_of by (Life (child dir n)) Exclusive a.server) h.grants (value_open a.server.records by (Life (child dir n)) h.server.handles);
         end = tt;
       }
@@ -273,13 +185,13 @@ module _ (servers : ℕ) (sessions : SessionStates) (k : ℕ) (some : k < server
   entries_fine by of = each_entry by (λ es s admitted x. list_all is_readable_entry es ≡ true → Fine s → IsShipping x)
       (λ s admitted r h. record { server = h; end = tt })
       (λ e es s admitted x mine here more r h. more (second _ _ r)
-      (record { me = h.me; named = h.named; records = after_all_kept s.records (effects_of by e.op e.reply) h.records; handles = open_after_all s.records (effects_of by e.op e.reply) (effects_open by e.op e.reply (readable by of) (first _ _ r)) h.handles; rows = h.rows }))
+      (record { me = h.me; named = h.named; records = after_all_kept s.records (effects_of by e.op e.reply) h.records; handles = open_after_all s.records (effects_of by e.op e.reply) (effects_open by e.op e.reply (readable by of) (first _ _ r)) h.handles; rows = h.rows; leading = h.leading; ending = h.ending }))
       (λ e es s admitted at gaps why r h. record { server = h; end = ship_end by e es s at gaps why h })
 
   ship_goes : (by : Session) (entries : List Entry) (s : Core) → HasJoined sessions by → list_all is_readable_entry entries ≡ true → Fine s → Goes (ship_step by entries s)
   ship_goes by entries s of r h =
       let all : IsShipping (ship_from by entries s []) = entries_fine by of entries s [] r h in
-      either_goes (list_all (λ (e : Entry). tells_its_effects e.op) entries) (shipped by (ship_from by entries s [])) (strange s) (record { server = all.server; sends = ((of, all.end, refl), tt) }) (strange_goes s h)
+      either_goes servers sessions k (list_all (λ (e : Entry). tells_its_effects e.op) entries) (shipped by (ship_from by entries s [])) (strange s) (record { server = all.server; sends = ((of, all.end, refl), tt) }) (strange_goes servers sessions k s h)
 
   -- ## An operation that is led
 
@@ -291,24 +203,18 @@ module _ (servers : ℕ) (sessions : SessionStates) (k : ℕ) (some : k < server
       at (inr q) = subst (λ v. IsNamedLed servers (led_end.Again v)) (sym q) tt
 
   lead_goes : (by : Session) (m : ToLead) (s : Core) (x : Stepped) → LeadEnds by m s x → HasJoined sessions by → Fine s → Goes x
-  lead_goes by m s x (unled l) of h = strange_goes s h
+  lead_goes by m s x (unled l) of h = strange_goes servers sessions k s h
   lead_goes by m s x (put_off w l r) of h = record { server = h; sends = ((of, why_fine m s w r h, refl), tt) }
-  lead_goes by m s x (aborted u l r g) of h = record { server = record { me = h.me; named = h.named; records = h.records; handles = h.handles; rows = h.rows }; sends = ((of, tt, refl), tt) }
-  lead_goes by m s x (led l r g) of h =
-      let es = led_effects m.op m.file (reply_of m.op) in
-      record {
-        server = record { me = h.me; named = h.named; records = after_all_kept s.records es h.records; handles = open_after_all s.records es (led_open m.op m.file (reply_of m.op)) h.handles; rows = h.rows };
-        sends = ((of, tt, refl), tt);
-      }
+  lead_goes by m s x (begins_to_lead l r) of h = begin_goes servers sessions k some by m s of h
 
   message_goes : (by : Session) (m : ClientMsg) (s : Core) → HasJoined sessions by → is_readable (msg.Client m) ≡ true → Fine s → Goes (message_step by m s)
   message_goes by (Ask items fresh) s of r h = ask_goes by items fresh s of h
   message_goes by (Renew pairs) s of r h = record {
-    server = with_others s (renewed_rows (end_of s) (numbers_in (pairs_here s pairs)) s.rows) h (renewed (HasJoined sessions) (end_of s) (numbers_in (pairs_here s pairs)) s.rows h.rows);
+    server = with_others servers sessions k s (renewed_rows (end_of s) (numbers_in (pairs_here s pairs)) s.rows) h (renewed (HasJoined sessions) (end_of s) (numbers_in (pairs_here s pairs)) s.rows h.rows);
     sends = ((of, pairs_fine s pairs h, refl), tt);
   }
   message_goes by (Release pairs) s of r h = record {
-    server = with_others s (released_rows (numbers_in (pairs_here s pairs)) s.rows) h (released (HasJoined sessions) (numbers_in (pairs_here s pairs)) s.rows h.rows);
+    server = with_others servers sessions k s (released_rows (numbers_in (pairs_here s pairs)) s.rows) h (released (HasJoined sessions) (numbers_in (pairs_here s pairs)) s.rows h.rows);
     sends = ((of, pairs_fine s pairs h, refl), tt);
   }
   message_goes by (Ship entries) s of r h = ship_goes by entries s of r h
@@ -325,7 +231,7 @@ module _ (servers : ℕ) (sessions : SessionStates) (k : ℕ) (some : k < server
   reaped_fine = each_lapsed (λ xs s admitted blockers r. Fine s → Fine r.server)
       (λ s admitted blockers h. h)
       (λ f x xs s admitted blockers r e more h. more
-      (record { me = h.me; named = h.named; records = after_all_kept s.records (reap_effects s.records f x) h.records; handles = open_after_all s.records (reap_effects s.records f x) (reap_open f x (own_of x (handles_of (node_of (get s.records f))))) h.handles; rows = h.rows }))
+      (record { me = h.me; named = h.named; records = after_all_kept s.records (reap_effects s.records f x) h.records; handles = open_after_all s.records (reap_effects s.records f x) (reap_open f x (own_of x (handles_of (node_of (get s.records f))))) h.handles; rows = h.rows; leading = h.leading; ending = h.ending }))
       (λ f x xs s admitted blockers r number e more h. more h)
 
   turn_goes : (xs : List (List ℕ × Session)) (s : Core) → Fine s → Goes (turn_over xs s)
@@ -344,9 +250,6 @@ module _ (servers : ℕ) (sessions : SessionStates) (k : ℕ) (some : k < server
   not_same true true true e later h = absurd (cc)
   not_same true true false e later h = refl
 
-  differ : (to : ℕ) (s : Core) → Fine s → (to == s.me) ≡ false → k ≢ to
-  differ to s h e q = let same : (to == s.me) ≡ true = ap (λ (n : ℕ). to == n) (h.me ∙ q) ∙ itself to in absurd (cc)
-
   moves_goes : (prefix : List ℕ) (to : ℕ) (s : Core) (o : Option MoveError) → move_refusal s.records s.rows s.map s.me prefix to None ≡ o → to < servers → Fine s → Goes (move_at o prefix to s)
   moves_goes prefix to s (Some why) e few h = record { server = h; sends = tt }
   moves_goes prefix to s None e few h =
@@ -358,13 +261,15 @@ module _ (servers : ℕ) (sessions : SessionStates) (k : ℕ) (some : k < server
           records = left_kept prefix piece s.records h.records;
           handles = open_left prefix piece s.records h.handles;
           rows = filtered (HasJoined sessions) (λ r. not (is_on_given prefix piece r)) s.rows h.rows;
+          leading = h.leading;
+          ending = h.ending;
         };
         sends = (
           record {
             from = some;
             to = few;
-            apart = differ to s h (not_same _ _ (to == s.me) _ _ e);
-            parcel = record {
+            apart = differ servers sessions k to s h (not_same _ _ (to == s.me) _ _ e);
+            brings = record {
               each = given_each prefix piece s.records h.records;
               handles = open_given prefix piece s.records h.handles;
               rows = filtered (HasJoined sessions) (is_on_given prefix piece) s.rows h.rows;
@@ -384,33 +289,28 @@ module _ (servers : ℕ) (sessions : SessionStates) (k : ℕ) (some : k < server
       records = with_kept s.records p.records h.records of.each;
       handles = open_with p.records s.records of.handles h.handles;
       rows = put_all (HasJoined sessions) p.rows s.rows of.rows h.rows;
+      leading = h.leading;
+      ending = h.ending;
     };
     sends = tt;
   }
-  parcel_goes false p s of h = strange_goes s h
+  parcel_goes false p s of h = strange_goes servers sessions k s h
 
-  peer_goes : (from : ℕ) (m : PeerMsg) (s : Core) → BringsParcel sessions m → Fine s → Goes (peer_step from m s)
-  peer_goes from (OfParcel p) s of h = parcel_goes (fits_here p s) p s of h
-  peer_goes from (Prepare m) s of h = absurd of
-  peer_goes from (Vote m) s of h = absurd of
-  peer_goes from (Decide m) s of h = absurd of
-  peer_goes from (Done m) s of h = absurd of
+  peer_goes : (from : ℕ) (m : PeerMsg) (s : Core) → IsCarried servers sessions (record { from = from; to = k; message = m }) → Fine s → Goes (peer_step from m s)
+  peer_goes from (OfParcel p) s of h = parcel_goes (fits_here p s) p s of.brings h
+  peer_goes from (Prepare m) s of h = prepare_goes servers sessions k some from m s of.from (λ e. of.apart (sym e)) h
+  peer_goes from (Vote m) s of h = vote_goes servers sessions k some m s of.brings h
+  peer_goes from (Decide m) s of h = decide_goes servers sessions k some from m s of.from (λ e. of.apart (sym e)) of.brings h
+  peer_goes from (Done m) s of h = told_goes servers sessions k some m s h
 
   -- ## An event
 
-  event_goes : (e : ServerEvent) (s : Core) → IsBrought servers sessions s e → Fine s → Goes (event_step e s)
+  event_goes : (e : ServerEvent) (s : Core) → IsBrought servers sessions k e → Fine s → Goes (event_step e s)
   event_goes (FromClient by m) s b h = message_goes by m s b.0 b.1 h
   event_goes (FromPeer from m) s b h = peer_goes from m s b h
   event_goes Turn s b h = turn_goes (lapsed_in s) s h
   event_goes (Recall field) s b h = record { server = h; sends = recall_sent (HasJoined sessions) (IsSent servers sessions k) (λ s n h. (h, tt, refl)) (is_mine s (file_of field)) field s.rows h.rows }
   event_goes (Move prefix to) s b h = moves_goes prefix to s (move_refusal s.records s.rows s.map s.me prefix to None) refl b h
 
-  pub step_goes : (s : Core) (now : ℕ) (e : ServerEvent) → IsBrought servers sessions s e → Fine s → Goes (step s now e)
-  step_goes s now e b h = event_goes e (begun now s) (still e b) (begun_fine now s h)
-    where
-      still : (e : ServerEvent) → IsBrought servers sessions s e → IsBrought servers sessions (begun now s) e
-      still (FromClient by m) b = b
-      still (FromPeer from m) b = b
-      still Turn b = b
-      still (Recall field) b = b
-      still (Move prefix to) b = b
+  pub step_goes : (s : Core) (now : ℕ) (e : ServerEvent) → IsBrought servers sessions k e → Fine s → Goes (step s now e)
+  step_goes s now e b h = event_goes e (begun now s) b (begun_fine now s h)

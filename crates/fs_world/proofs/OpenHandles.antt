@@ -1,5 +1,5 @@
 -- What leaves every handle of the records readable: its session is one that there may be, and it has an access.
-use Rattle.std.proofs.Common.{◌≡◌, ℕ, ◌+◌, List, [], ◌∷◌, Bool, true, false, cond, refl, sym, subst, inl, inr}
+use Rattle.std.proofs.Common.{◌≡◌, ℕ, ◌+◌, List, [], ◌∷◌, ◌++◌, Bool, true, false, cond, refl, sym, subst, inl, inr}
 use Rattle.std.specs.Prelude.{Option, Some, None, IfSome, filter, not, option_map, ◌==◌}
 use Rattle.std.specs.List.{AllByRecursion, list_all}
 use Rattle.std.specs.Ordering.{nat_cmp}
@@ -36,13 +36,17 @@ use Rattle.fs_world.specs.Readable.{HandlesOpen, HasOpenHandles, RecordsOpen}
 
 -- ## Lists
 
-each_left : {X : Type 0} (P : X → Type 0) (test : X → Bool) (xs : List X) → AllByRecursion P xs → AllByRecursion P (filter test xs)
+pub each_left : {X : Type 0} (P : X → Type 0) (test : X → Bool) (xs : List X) → AllByRecursion P xs → AllByRecursion P (filter test xs)
 each_left P test [] h = tt
 each_left P test (x ∷ xs) h =
     elim (test x) as (λ b. AllByRecursion P (cond b (x ∷ filter test xs) (filter test xs))) [
       | true ↦ (h.0, each_left P test xs h.1)
       | false ↦ each_left P test xs h.1
     ]
+
+pub each_both : {X : Type 0} (P : X → Type 0) (xs ys : List X) → AllByRecursion P xs → AllByRecursion P ys → AllByRecursion P (xs ++ ys)
+each_both P [] ys g h = h
+each_both P (x ∷ xs) ys g h = (g.0, each_both P xs ys g.1 h)
 
 each_put : {X : Type 0} (P : X → Type 0) (test : X → Bool) (x : X) (ys : List X) → P x → AllByRecursion P ys → AllByRecursion P (put_before test x ys)
 each_put P test x [] p h = (p, tt)

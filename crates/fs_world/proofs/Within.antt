@@ -85,7 +85,7 @@ turn_within w s now (Some state) at h unspent r =
 -- ## A server's events
 
 -- what the step of a server sends
-sends : (w : TheServed) (k : ℕ) (c : Core) (now : ℕ) (e : ServerEvent) → slice_get w.servers k ≡ Some c → IsBrought (length w.servers) w.sessions c e → IsLinked w → AreSent (length w.servers) w.sessions k (step c now e).out.send
+sends : (w : TheServed) (k : ℕ) (c : Core) (now : ℕ) (e : ServerEvent) → slice_get w.servers k ≡ Some c → IsBrought (length w.servers) w.sessions k e → IsLinked w → AreSent (length w.servers) w.sessions k (step c now e).out.send
 sends w k c now e at brought h = (step_goes (length w.servers) w.sessions k (within w.servers k c at) (readable_in (length w.servers) w.sessions h.sessions) c now e brought (h.servers k c at)).sends
 
 own_within : (w : TheServed) (k : ℕ) (turn : Bool) (now : ℕ) (e : ServerEvent) → IsOwn (length w.servers) e → IsLinked w → (server_step k turn now e w).spent ≡ None → AllInRange (server_step k turn now e w).world → IsLinked (server_step k turn now e w).world
@@ -96,7 +96,7 @@ own_within w k turn now e own h = go (slice_get w.servers k) (slice_get w.posts 
     go (Some c) None at tied unspent r = h
     go (Some c) (Some post) at tied unspent r =
         let send = (step c now e).out.send in
-        let brought = own_brought (length w.servers) w.sessions c e own in
+        let brought = own_brought (length w.servers) w.sessions k e own in
         subst (λ (x : Stepped). IsLinked x.world) (step_there w k turn now e c post at tied)
         (server_linked w k c post turn now e at tied own
         (down_written (length w.servers) w.sessions w.sessions k send w.in_flight (with_server k (core_step k turn None now e (at_server c post w)) w).world (sends w k c now e at brought h) (λ t j. j) refl refl r)
@@ -109,7 +109,7 @@ abbrev IsFineStep : Stepped → Type 0
 IsFineStep y = (y.spent ≡ None) × AllInRange y.world
 
 -- what the server sends at all that a packet joins was written down, and there was room for it
-answers_within : (w : TheServed) (k now : ℕ) (c : Core) (from : Peer) (replied : Option Peer) (x : Heard) (links : Links) (es : List ServerEvent) → slice_get w.servers k ≡ Some c → AreEvents from x.joined es → AreBrought w.sessions es → IsLinked w
+answers_within : (w : TheServed) (k now : ℕ) (c : Core) (from : Peer) (replied : Option Peer) (x : Heard) (links : Links) (es : List ServerEvent) → slice_get w.servers k ≡ Some c → AreEvents from x.joined es → AreBrought (length w.servers) w.sessions k es → IsLinked w
     → IsFineStep (with_server k (server_hears now k from replied x (at_server c links w)) w) → IsAnswered now from x.joined (at_server c links w)
 answers_within w k now c from replied x links es at of brought h fine =
     let n = length w.servers in
