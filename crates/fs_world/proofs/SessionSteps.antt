@@ -117,17 +117,14 @@ module _ (laws : EventLaws) (count skew greatest : ℕ) (tale : Tale) (w : Serve
     asks : AsksOne seen s
     asks = let server = a_server w.servers (subst (λ (n : ℕ). 1 ≤ n) (sym h.many) some) in laws.exchanges skew greatest server.0 seen s server.1 h.cluster
 
-    here : Ends
-    here = ends_with s w.servers sits
+    abbrev pub ends_here : Ends
+    ends_here = ends_with s w.servers sits
 
-    one : OneExchange here.client here.client.exchange here.up here.down
-    one = subst (λ (n : Lines). let e : Ends = ends_with s w.servers n in OneExchange e.client e.client.exchange e.up e.down) own asks.one
+    pub one_asked : OneExchange state.client state.client.exchange ends_here.up ends_here.down
+    one_asked = subst (λ (n : Lines). let e : Ends = ends_with s w.servers n in OneExchange e.client e.client.exchange e.up e.down) own asks.one
 
     asked : (d : Led) → state.client.led ≡ Some d → tale.leads s ≡ Some d.entry.op
     asked = subst (λ (n : Lines). (d : Led) → n.client.led ≡ Some d → tale.leads s ≡ Some d.entry.op) own (h.answered s).asked
-
-    owed : List Answer
-    owed = owed_to s w.servers
 
     addressed : IsAddressed sits
     addressed = subst IsAddressed own asks.addressed
@@ -143,7 +140,7 @@ module _ (laws : EventLaws) (count skew greatest : ℕ) (tale : Tale) (w : Serve
         called
         (as_planned p next state.down refl)
         (act_fine state.client now o called)
-        (act_tells s o state.client now owned here.down (λ e. (idle_due state.client state.client.exchange here.up here.down e one).1) tale.leads))
+        (act_tells s o state.client now owned ends_here.down (λ e. (idle_due state.client state.client.exchange ends_here.up ends_here.down e one_asked).1) tale.leads))
 
     turns : Then [] tale.leads (with_session s (client_turns now s state w.journal w.packets) w).world
     turns =
@@ -154,7 +151,7 @@ module _ (laws : EventLaws) (count skew greatest : ℕ) (tale : Tale) (w : Serve
         tt
         (as_planned p next state.down refl)
         (turn_fine state.client now)
-        (turn_tells s state.client now here.down tale.leads))
+        (turn_tells s state.client now ends_here.down tale.leads))
 
     -- ## Its client hears an answer
 
@@ -172,7 +169,7 @@ module _ (laws : EventLaws) (count skew greatest : ℕ) (tale : Tale) (w : Serve
         (ap (λ (n : Lines). find (is_with k) n.down) own ∙ first)
         (ap (λ (m : Option (ℕ × ClientMsg)). lines_after p (pushed m state.up) rest) (sym (answer_silent state.client now k a)))
         (answer_fine state.client now k a)
-        (hear_tells s k state.client now here.up owed state.down one tale.leads asked a first
+        (hear_tells s k state.client now ends_here.up (owed_to s w.servers) state.down one_asked tale.leads asked a first
         (λ e. addressed.down (k, a) (found (is_with k) state.down (k, a) first).0 e)))
 
   -- ## Each event at a session
