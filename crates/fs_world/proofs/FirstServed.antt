@@ -1,5 +1,5 @@
 -- What holds holds of the first world of the servers form.
-use Rattle.std.proofs.Common.{◌≡◌, ℕ, zero, suc, ◌≤◌, [], ◌∷◌, ◌++◌, inl, inr, ◌⊎◌, refl, ap, sym, subst}
+use Rattle.std.proofs.Common.{◌≡◌, ℕ, zero, suc, ◌≤◌, [], ◌∷◌, ◌++◌, inl, inr, ◌⊎◌, ap, sym, subst}
 use Rattle.std.specs.Prelude.{None}
 use Rattle.std.specs.FinMap.{empty, get-empty}
 use Rattle.std.specs.Ordering.{nat_cmp}

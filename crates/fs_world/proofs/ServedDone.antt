@@ -11,11 +11,9 @@ use Rattle.fs_ident.proofs.Same.{itself}
 use Rattle.fs_model.specs.Namespace.{first_space}
 use Rattle.fs_msg.specs.Journal.{IsSerialRun}
 use Rattle.fs_msg.specs.declared.item.Item.{Item}
-use Rattle.fs_record.specs.Records.{nodes_of}
 use Rattle.fs_server.specs.Ships.{item_of}
 use Rattle.fs_server.specs.declared.state.Server.{Server as Core}
-use Rattle.fs_serial.specs.Cluster.{Cluster, parcels_of}
-use Rattle.fs_serial.specs.Joined.{records_of_all}
+use Rattle.fs_serial.specs.Cluster.{Cluster}
 use Rattle.fs_serial.specs.Numbers.{AreNumbered, all_items, is_server, is_session, items_at, items_by}
 use Rattle.fs_serial.specs.Owed.{ends_in}
 use Rattle.fs_serial.specs.Serial.{JournalSerial}
@@ -25,7 +23,7 @@ use Rattle.fs_serial.specs.World.{WorldHolds, settled_at}
 use Rattle.fs_serial.proofs.DecidedEffects.HeldSeen.{held_same}
 use Rattle.fs_world.specs.Coming.{IsTold}
 use Rattle.fs_world.specs.Order.{Agrees, AreNumberedFrom, HasNumberOf, IsInSessionOrder, Tale, ReplyGiven, items_of, same_actor, told_to}
-use Rattle.fs_world.specs.Parts.{ServedHold, lines_of, replied_in, seen as seen_by}
+use Rattle.fs_world.specs.Parts.{ServedHold, replied_in, seen as seen_by}
 use Rattle.fs_world.specs.World.{space_of}
 use Rattle.fs_world.specs.declared.form.Form.TheVariants.{Served as ServedForm}
 use Rattle.fs_world.specs.declared.servers.world.Served.{Served}

@@ -32,7 +32,7 @@ use Rattle.fs_serial.specs.Seen.{IsAddressed}
 use Rattle.fs_serial.specs.World.{Ends, is_called, pushed}
 use Rattle.fs_serial.proofs.ClientMessages.SessionStates.{idle_due}
 use Rattle.fs_world.specs.Carried.{AreFirstOf, downs_of, joined_at, state_post}
-use Rattle.fs_world.specs.Order.{Leads, Tale, ReplyGiven, ended_in, leads_in, replies_in, reply_given, told_at as told_in, told_to, told_with}
+use Rattle.fs_world.specs.Order.{Leads, Tale, ReplyGiven, ended_in, leads_in, replies_in, reply_given, told_at as told_in, told_with}
 use Rattle.fs_world.specs.Parts.{lines_in, lines_of}
 use Rattle.fs_world.specs.Served.{SessionStepped, SessionStates, client_acts, client_turns, do_at, join_at, client_receive_packet_at, turn_at, up_after, with_read, with_session}
 use Rattle.fs_world.specs.declared.servers.session_state.SessionState.{SessionState}
