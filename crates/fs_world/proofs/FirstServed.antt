@@ -40,6 +40,11 @@ first_holds laws servers skew term some = record {
   many = first_count servers skew term;
   rows = λ s i row j. absurd (subst (In row) (no_rows servers skew term s i) j);
   parcels = λ f i. absurd i;
-  answered = λ x. subst (λ (l : Lines). IsTelling x (ends_with x (first_servers servers skew term) l) [] [] None) (ap (λ (f : Session → Lines). f x) (first_seen term)) (record { told = record { front = []; split = sym (none_comes x (owed_to x (first_servers servers skew term) ++ [])); told = tt }; asked = λ d e. absurd (cc) });
+  answered = λ x.
+      let all = first_servers servers skew term in
+      subst (λ (l : Lines). IsTelling x (ends_with x all l) [] [] None) (ap (λ (f : Session → Lines). f x) (first_seen term)) (record {
+        told = record { front = []; split = sym (none_comes x (owed_to x all ++ [])); told = tt };
+        asked = λ d e. absurd (cc);
+      });
   items = tt;
 }

@@ -191,7 +191,8 @@ module _ (laws : SerialLaws) (count skew greatest : ℕ) (tale : Tale) (w : Serv
             let left : SessionState = record q.state { up = without_first (is_with k) q.state.up } in
             let same : left ≡ r.state = some_is left r.state (sym (ap (λ (o : Option SessionState). get (without_up k o s.0 w.sessions) s.0) q.there ∙ got_here w.sessions s left) ∙ r.there) in
             let one = one_asked (timed laws) count skew greatest tale w h now within some s q.state q.there in
-            let few = few_up q.state.client q.state.client.exchange q.state.up (taken_leads s q.state.client.led w.servers) (ends_with s w.servers (lines_in w.term s (Some q.state))).down one in
+            let ends = ends_with s w.servers (lines_in w.term s (Some q.state)) in
+            let few = few_up ends.client ends.client.exchange q.state.up (taken_leads s ends.client.led w.servers) ends.down one in
             absurd (no_second (is_with k) q.state.up q.asked r.asked few q.first
             (ap (λ (z : SessionState). find (is_with k) z.up) same ∙ r.first))
 

@@ -120,5 +120,7 @@ module _ (laws : SerialLaws) (count skew greatest : ℕ) (tale : Tale) (w : Serv
   pub served_parts : ServedHold skew greatest tale.told w
   served_parts = record {
     parts = subst (λ (replied : Session → List Item). ClusterHolds skew greatest (seen_by replied w)) replied_is h.cluster;
-    replies = λ x. subst (λ (is : List Item). IsTold x (ends_in seen x) is (told_to x tale.told)) (sym (holds.all.sessions x).replies) (h.answered x).told;
+    replies = λ x.
+        subst (λ (is : List Item). IsTold x (ends_in seen x) is (told_to x tale.told))
+        (sym (holds.all.sessions x).replies) (h.answered x).told;
   }

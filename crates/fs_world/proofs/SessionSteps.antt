@@ -115,13 +115,16 @@ module _ (laws : EventLaws) (count skew greatest : ℕ) (tale : Tale) (w : Serve
 
     -- it asks one question at a time
     asks : AsksOne seen s
-    asks = let server = a_server w.servers (subst (λ (n : ℕ). 1 ≤ n) (sym h.many) some) in laws.exchanges skew greatest server.0 seen s server.1 h.cluster
+    asks =
+        let server = a_server w.servers (subst (λ (n : ℕ). 1 ≤ n) (sym h.many) some) in
+        laws.exchanges skew greatest server.0 seen s server.1 h.cluster
 
     abbrev pub ends_here : Ends
     ends_here = ends_with s w.servers sits
 
     pub one_asked : OneExchange state.client state.client.exchange ends_here.up ends_here.down
-    one_asked = subst (λ (n : Lines). let e : Ends = ends_with s w.servers n in OneExchange e.client e.client.exchange e.up e.down) own asks.one
+    one_asked =
+        subst (λ (n : Lines). let e : Ends = ends_with s w.servers n in OneExchange e.client e.client.exchange e.up e.down) own asks.one
 
     asked : (d : Led) → state.client.led ≡ Some d → tale.leads s ≡ Some d.entry.op
     asked = subst (λ (n : Lines). (d : Led) → n.client.led ≡ Some d → tale.leads s ≡ Some d.entry.op) own (h.answered s).asked
@@ -140,7 +143,8 @@ module _ (laws : EventLaws) (count skew greatest : ℕ) (tale : Tale) (w : Serve
         called
         (as_planned p next state.down refl)
         (act_fine state.client now o called)
-        (act_tells s o state.client now owned ends_here.down (λ e. (idle_due state.client state.client.exchange ends_here.up ends_here.down e one_asked).1) tale.leads))
+        (act_tells s o state.client now owned ends_here.down
+            (λ e. (idle_due state.client state.client.exchange ends_here.up ends_here.down e one_asked).1) tale.leads))
 
     turns : Then [] tale.leads (with_session s (client_turns now s state w.journal w.packets) w).world
     turns =
