@@ -177,9 +177,11 @@ module _ (s : Session) (k : ℕ) (raw : ClientState) (now : ℕ) (up : List Clie
       elim (subst (In (TheAnswer.Led e)) h.told i)
       as (λ _. (due coming ≡ TheAnswer.Led e ∷ []) × (fits k (Some x) (TheAnswer.Led e) c ≡ true)) [
         | inl same ↦
-            let server : server_of_question x ≡ k = cc in
-            (h.told ∙ ap (λ b. b ∷ []) (sym same), by x (subst (λ n. answer_fits n x (TheAnswer.Led e) raw ≡ true) server
-            (subst (λ b. answer_fits (server_of_question x) x b raw ≡ true) (sym same) h.fits)))
+            let server : server_of_question x ≡ k = cc in (
+              h.told ∙ ap (λ b. b ∷ []) (sym same),
+              by x (subst (λ n. answer_fits n x (TheAnswer.Led e) raw ≡ true) server
+                  (subst (λ b. answer_fits (server_of_question x) x b raw ≡ true) (sym same) h.fits)),
+            )
         | inr z ↦ absurd z
       ]
     where
@@ -216,8 +218,8 @@ module _ (s : Session) (k : ℕ) (raw : ClientState) (now : ℕ) (up : List Clie
   hear_tells (TheAnswer.Led e) f at =
       let there : In (TheAnswer.Led e) (messages down) = In-mapped (λ (m : ℕ × Answer). m.1) (k, TheAnswer.Led e) down (found (is_with k) down (k, TheAnswer.Led e) f).0 in
       let q = led_hears e raw.exchange one
-          (In-kept (λ (b : Answer). not (is_recall b)) (TheAnswer.Led e) coming
-          (In-behind (TheAnswer.Led e) owed (messages down) there) refl) (at refl) in
+      (In-kept (λ (b : Answer). not (is_recall b)) (TheAnswer.Led e) coming
+      (In-behind (TheAnswer.Led e) owed (messages down) there) refl) (at refl) in
       subst (λ b. Hears (cond b (told (TheAnswer.Led e) c) (strange c))) (sym q.1) (led_tells raw.led refl e (led_end_fits k c.exchange e c q.1) q.0)
 
 -- ## Turns

@@ -145,7 +145,7 @@ module _ (laws : EventLaws) (count skew greatest : ℕ) (tale : Tale) (p : Parts
           → CanCome s event (cluster_of h.replied p) → lines_in p.term s (Some next) ≡ planned rest plan
           → MayBeFine plan.out.admitted
           → TellsOf s state.client.led (led_after plan.ready.change state.client.led) (coming state.down) (coming rest)
-              (told_by s plan.ready.change plan.out.admitted) new tale.leads leads
+          (told_by s plan.ready.change plan.out.admitted) new tale.leads leads
           → Holds laws count skew (max greatest now) (record { told = tale.told ++ new; leads = leads }) (with_plan next plan.out.admitted)
       client_holds event rest plan next new leads does can e fine tells = record {
         replied = with_told s (told_by s plan.ready.change plan.out.admitted) h.replied;

@@ -144,7 +144,7 @@ module _ (laws : EventLaws) (count skew greatest : ℕ) (tale : Tale) (w : Serve
         (as_planned p next state.down refl)
         (act_fine state.client now o called)
         (act_tells s o state.client now owned ends_here.down
-            (λ e. (idle_due state.client state.client.exchange ends_here.up ends_here.down e one_asked).1) tale.leads))
+        (λ e. (idle_due state.client state.client.exchange ends_here.up ends_here.down e one_asked).1) tale.leads))
 
     turns : Then [] tale.leads (with_session s (client_turns now s state w.journal w.packets) w).world
     turns =
