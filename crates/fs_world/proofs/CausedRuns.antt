@@ -14,7 +14,7 @@ use Rattle.fs_world.specs.Carried.{AllCarry}
 use Rattle.fs_world.specs.Direct.{do_at, first_direct, join_at, step_of}
 use Rattle.fs_world.specs.Over.{AllCaused, Said, all_said, said_at, said_from}
 use Rattle.fs_world.specs.Served as served
-use Rattle.fs_world.specs.Served.{SessionStates, first_served}
+use Rattle.fs_world.specs.Served.{first_served}
 use Rattle.fs_world.specs.World.{first_world, step}
 use Rattle.fs_world.specs.declared.direct.world.Direct.{Direct as TheDirect}
 use Rattle.fs_world.specs.declared.form.Form.TheVariants.{Direct, Served}

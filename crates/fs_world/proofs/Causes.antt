@@ -8,14 +8,17 @@ use Rattle.fs_ident.specs.declared.actor.LeaseNo.{LeaseNo}
 use Rattle.fs_ident.specs.declared.actor.Peer.{Peer}
 use Rattle.fs_ident.specs.declared.actor.Peer.TheVariants.{Server, Client}
 use Rattle.fs_ident.specs.declared.actor.Session.{Session}
+use Rattle.fs_ident.specs.declared.actor.TxnNo.{TxnNo}
 use Rattle.fs_ident.proofs.Standing.{In-got}
 use Rattle.fs_field.specs.declared.row.Row.{Row}
+use Rattle.fs_field.specs.declared.used.Part.{Part}
 use Rattle.fs_field.specs.Table.{has_no}
 use Rattle.fs_window.specs.Post.{Links, post_accepted, post_due}
 use Rattle.fs_window.specs.Reading.{packet_at}
 use Rattle.fs_window.specs.declared.heard.Heard.{Heard as HeardThere}
 use Rattle.fs_window.specs.declared.packet.Packet.{Packet}
 use Rattle.fs_window.specs.declared.sent.Sent.{Sent}
+use Rattle.fs_map.specs.Map.{server_of}
 use Rattle.fs_model.specs.Step.{is_empty}
 use Rattle.fs_model.specs.declared.op.Op.{Op}
 use Rattle.fs_msg.specs.declared.answer.Answer.{Answer}
@@ -25,20 +28,28 @@ use Rattle.fs_msg.specs.declared.end.End.{End}
 use Rattle.fs_msg.specs.declared.end.End.TheVariants as end
 use Rattle.fs_msg.specs.declared.entry.Entry.{Entry}
 use Rattle.fs_msg.specs.declared.lead.Lead.{Lead as ToLead}
+use Rattle.fs_msg.specs.declared.msg.Msg.{Msg}
 use Rattle.fs_msg.specs.declared.note.Note.{Note}
 use Rattle.fs_msg.specs.declared.note.Note.TheVariants as note
 use Rattle.fs_field.specs.declared.vote.Vote.{Vote as AVote}
 use Rattle.fs_msg.specs.declared.decide.Decide.{Decide as ToDecide}
+use Rattle.fs_msg.specs.declared.done.Done.{Done as ToldDone}
 use Rattle.fs_msg.specs.declared.prepare.Prepare.{Prepare as ToPrepare}
 use Rattle.fs_msg.specs.declared.peer_msg.PeerMsg.{PeerMsg}
 use Rattle.fs_msg.specs.declared.peer_msg.PeerMsg.TheVariants.{Parcel as OfParcel, Prepare, Vote, Decide, Done}
 use Rattle.fs_msg.specs.declared.server_note.ServerNote.{ServerNote}
 use Rattle.fs_msg.specs.declared.server_note.ServerNote.TheVariants as server
+use Rattle.fs_msg.specs.declared.voted.Voted.{Voted}
 use Rattle.fs_parcel.specs.Parcel.{move_refusal}
 use Rattle.fs_parcel.specs.declared.error.MoveError.{MoveError}
 use Rattle.fs_record.specs.Effects.{tells_its_effects}
-use Rattle.fs_record.specs.declared.led_end.LedEnd.TheVariants as led_end
+use Rattle.fs_record.specs.declared.led_end.LedEnd.{LedEnd}
 use Rattle.fs_record.specs.declared.parcel.Parcel.{Parcel}
+use Rattle.fs_txn.specs.Deciding.{decision}
+use Rattle.fs_txn.specs.Leading.{elsewhere, end_of_decision, without_done}
+use Rattle.fs_txn.specs.declared.decision.Decision.{Decision}
+use Rattle.fs_txn.specs.declared.leading.Ending.{Ending}
+use Rattle.fs_txn.specs.declared.leading.Leading.{Leading}
 use Rattle.fs_view.specs.declared.view_lease.ViewLease.{ViewLease}
 use Rattle.fs_client.specs.Acts.{act_plan}
 use Rattle.fs_client.specs.Answers.{told}
@@ -47,13 +58,16 @@ use Rattle.fs_client.specs.Client.{begun}
 use Rattle.fs_client.specs.Turns.{ending, idle, release_some, renew_some, returned, ship_some, turn_free, turn_on, turn_plan}
 use Rattle.fs_client.specs.declared.state.Client.{Client as ClientState}
 use Rattle.fs_client.proofs.Refused.{act_over, acts_stay, turns_stay}
-use Rattle.fs_server.proofs.Leading.{LeadEnds, aborted, lead_ends, led, put_off, unled}
+use Rattle.fs_server.proofs.Leading.{LeadEnds, begun as txn_begun, lead_ends, put_off, unled}
+use Rattle.fs_server.specs.Begins.{Round, first_round, leader_with, part_round, parts_in, round_of, rounds, txn_of}
+use Rattle.fs_server.specs.Concludes.{ends_now, goes_on, tells}
+use Rattle.fs_server.specs.Counts.{after_own_vote, ask_for, asked_at, done_step, done_with, vote_step, with_vote}
 use Rattle.fs_server.specs.Leads.{lead_step}
 use Rattle.fs_server.specs.Asks.{asked_in, recall_of, recalls_at}
-use Rattle.fs_server.specs.Follows.{applies, is_prepared, vote_here, votes}
+use Rattle.fs_server.specs.Follows.{applies, is_prepared, to_server, vote_here, votes}
 use Rattle.fs_server.specs.Moves.{fits_here, move_at, parcel_at, peer_step}
 use Rattle.fs_server.specs.Reaps.{lapsed_in, reap_from, recalls_for, turn_over}
-use Rattle.fs_server.specs.Server.{Stepped as CoreStepped, begun as server_begun, strange as server_strange}
+use Rattle.fs_server.specs.Server.{Stepped as CoreStepped, begun as server_begun, is_mine, strange as server_strange}
 use Rattle.fs_server.specs.Ships.{ship_from, shipped}
 use Rattle.fs_server.specs.Step.{recalled_on, recalls_of, step as core_steps}
 use Rattle.fs_server.specs.declared.event.ServerEvent.{ServerEvent}
@@ -61,6 +75,7 @@ use Rattle.fs_server.specs.declared.event.ServerEvent.TheVariants.{FromClient, F
 use Rattle.fs_server.specs.declared.state.Server.{Server as Core}
 use Rattle.fs_serial.specs.Cluster.{is_with, without_first}
 use Rattle.fs_serial.specs.declared.in_flight.InFlight.{InFlight}
+use Rattle.fs_serial.proofs.Transactions.RoundsLocks.{round_by}
 use Rattle.fs_schedule.specs.declared.event.What.{What}
 use Rattle.fs_schedule.specs.declared.event.What.TheVariants.{Join, Do, Tell, Turn, Recall as AskBack, Move}
 use Rattle.fs_world.specs.Over.{AllCaused, Said, all_said, said_in, sender_in}
@@ -73,6 +88,7 @@ use Rattle.fs_world.specs.declared.servers.session_state.SessionState.{SessionSt
 use Rattle.fs_world.specs.declared.servers.world.Served.{Served}
 use Rattle.fs_world.proofs.HeardEach.{answers_in, heard_is}
 use Rattle.fs_world.proofs.HeardSays.{Says, heard_says}
+use Rattle.fs_world.proofs.LedEach.{each_done, each_goes, each_vote}
 use Rattle.fs_world.proofs.ServerEach.{heard_is as server_heard_is, heard_notes as noted_there, server_notes, taking, taking_all}
 use Rattle.fs_world.proofs.ServerNext.{AreNext, IsNext, events_in}
 use Rattle.fs_world.proofs.Said.{AreGiven, AreKnown, IsKnown, IsNoted, WasGiven, act_caused, all_more, caused_append, downs_known, given_append, given_behind_all, heard_more, known_put, note_caused}
@@ -138,12 +154,59 @@ decide_given : (now : List Said) (b : Bool) (from : ℕ) (m : ToDecide) (s : Cor
 decide_given now true from m s = tt
 decide_given now false from m s = tt
 
+-- a part is told, or asked for
+tells_given : (now : List Said) (txn : TxnNo) (d : Decision) (out : List (ℕ × ℕ)) → AreGiven now (tells txn d out)
+tells_given now txn d [] = tt
+tells_given now txn d (x ∷ xs) = tells_given now txn d xs
+
+rounds_given : (now : List Said) (txn : TxnNo) (number : ℕ) (by : Session) (ps : List Part) (r : Round)
+    → AreGiven now r.send → AreGiven now (rounds txn number by ps r).send
+rounds_given now txn number by [] r h = h
+rounds_given now txn number by (p ∷ ps) r h = rounds_given now txn (number + 1) by ps (part_round txn number by p r)
+    (elim (is_mine r.server p.file) as (λ b. AreGiven now (round_by txn number by p r b).send) [
+      | true ↦ h
+      | false ↦ given_append now r.send (to_server (server_of r.server.map p.file) (ask_for txn number by p) ∷ []) h tt
+    ])
+
+-- the end of what is led is no answer to a log
+ends_given : (now : List Said) (out : List (ℕ × ℕ)) (by : Session) (e : LedEnd) → AreGiven now (ends_now out by e)
+ends_given now [] by e = (tt, tt)
+ends_given now (x ∷ xs) by e = tt
+
+abbrev SendsGiven : List Said → CoreStepped → Type 0
+SendsGiven now x = AreGiven now x.out.send
+
+goes_given : (now : List Said) (n : ServerNote) (l : Leading) (sent : List (Peer × Msg)) (s : Core) → AreGiven now sent
+    → SendsGiven now (goes_on n l sent s)
+goes_given now n l sent s h =
+    let d : Decision = decision l.leader None in
+    let out : List (ℕ × ℕ) = elsewhere s.me l in
+    let told = tells l.leader.txn d out in
+    let ends = ends_now out l.leader.session (end_of_decision d) in
+    each_goes (SendsGiven now) n l sent s
+    (given_append now sent (told ++ ends) h
+    (given_append now told ends (tells_given now l.leader.txn d out) (ends_given now out l.leader.session (end_of_decision d)))) h
+
+vote_given : (now : List Said) (m : Voted) (s : Core) → SendsGiven now (vote_step m s)
+vote_given now m s = each_vote (SendsGiven now) m s tt
+    (λ l p to f. tt)
+    (λ l v f. goes_given now (server.Waits l.leader.txn) (with_vote m.number v l) [] s tt)
+    (λ l p f. let v : AVote = vote_here s l.leader.session p in
+    goes_given now (server.Waits l.leader.txn) (with_vote m.number v (asked_at m.number s.me l)) [] (after_own_vote l.leader.txn p v s) tt)
+
+left_given : (now : List Said) (x : Ending) (left : List (ℕ × ℕ)) (s : Core) → SendsGiven now (done_with x left s)
+left_given now x [] s = (tt, tt)
+left_given now x (y ∷ ys) s = tt
+
+done_given : (now : List Said) (m : ToldDone) (s : Core) → SendsGiven now (done_step m s)
+done_given now m s = each_done (SendsGiven now) m s tt (λ x left f. left_given now (without_done m.number x) left s)
+
 peer_given : (now : List Said) (from : ℕ) (m : PeerMsg) (s : Core) → AreGiven now (peer_step from m s).out.send
 peer_given now from (OfParcel p) s = parcel_given now (fits_here p s) p s
 peer_given now from (Prepare m) s = prepare_given now (is_prepared m.txn m.number s.prepared) (vote_here s m.session m.part) from m s
-peer_given now from (Vote m) s = tt
+peer_given now from (Vote m) s = vote_given now m s
 peer_given now from (Decide m) s = decide_given now (is_prepared m.txn m.number s.prepared) from m s
-peer_given now from (Done m) s = tt
+peer_given now from (Done m) s = done_given now m s
 
 -- a packet of the session brings the question
 abbrev IsFrom : Option Peer → ServerEvent → Type 0
@@ -162,8 +225,11 @@ ship_given k by entries s from e false = tt
 lead_given : (k : ℕ) (by : Session) (m : ToLead) (s : Core) (from : Option Peer) (x : CoreStepped) → LeadEnds by m s x → AreGiven (says from k x.out.note) x.out.send
 lead_given k by m s from x (unled l) = tt
 lead_given k by m s from x (put_off w l r) = (tt, tt)
-lead_given k by m s from x (aborted u l r g) = (tt, tt)
-lead_given k by m s from x (led l r g) = (tt, tt)
+lead_given k by m s from x (txn_begun l r) =
+    let now = says from k x.out.note in
+    let g : Round = round_of by m s in
+    goes_given now (server.Prepares (txn_of s)) (record { leader = leader_with (txn_of s) by m g.votes; at = g.at }) g.send g.server
+    (rounds_given now (txn_of s) 0 by (parts_in m) (first_round s) tt)
 
 message_given : (k : ℕ) (by : Session) (m : ClientMsg) (s : Core) (now : ℕ) (from : Option Peer) → from ≡ Some (Client by) → AreGiven (says from k (core_steps s now (FromClient by m)).out.note) (core_steps s now (FromClient by m)).out.send
 message_given k by (Ask items dir) s now from e = let a = asked_in by items dir (server_begun now s) in (tt, ask_given (says from k (core_steps s now (FromClient by (Ask items dir))).out.note) a.end a.server.rows)

@@ -4,6 +4,7 @@ use Rattle.std.specs.Prelude.{Option, Some, None, is_some}
 use Rattle.std.specs.List.{AllByRecursion, list_all}
 use Rattle.fs_ident.specs.In.{In}
 use Rattle.fs_ident.specs.declared.actor.LeaseNo.{LeaseNo}
+use Rattle.fs_ident.specs.declared.actor.Peer.{Peer}
 use Rattle.fs_ident.specs.declared.actor.Session.{Session}
 use Rattle.fs_field.specs.declared.asked.Need.{Need}
 use Rattle.fs_field.specs.declared.asked.Need.TheVariants as need
@@ -40,10 +41,25 @@ use Rattle.fs_parcel.specs.declared.error.MoveError.{MoveError}
 use Rattle.fs_record.specs.declared.parcel.Parcel.{Parcel}
 use Rattle.fs_field.specs.declared.vote.Vote.{Vote as AVote}
 use Rattle.fs_msg.specs.declared.decide.Decide.{Decide as ToDecide}
+use Rattle.fs_msg.specs.declared.done.Done.{Done as ToldDone}
+use Rattle.fs_msg.specs.declared.msg.Msg.{Msg}
+use Rattle.fs_msg.specs.declared.server_note.ServerNote.{ServerNote}
+use Rattle.fs_msg.specs.declared.server_note.ServerNote.TheVariants as server_note
+use Rattle.fs_msg.specs.declared.voted.Voted.{Voted}
+use Rattle.fs_txn.specs.Deciding.{decision}
+use Rattle.fs_txn.specs.Leading.{leading_of, without_done}
+use Rattle.fs_txn.specs.declared.decision.Decision.{Decision}
+use Rattle.fs_txn.specs.declared.decision.Decision.TheVariants.{Commit, Abort}
+use Rattle.fs_txn.specs.declared.leader.Leader.{Leader}
+use Rattle.fs_txn.specs.declared.leading.Ending.{Ending}
+use Rattle.fs_txn.specs.declared.leading.Leading.{Leading}
 use Rattle.fs_msg.specs.declared.prepare.Prepare.{Prepare as ToPrepare}
 use Rattle.fs_msg.specs.declared.peer_msg.PeerMsg.{PeerMsg}
 use Rattle.fs_msg.specs.declared.peer_msg.PeerMsg.TheVariants.{Parcel as OfParcel, Prepare, Vote, Decide, Done}
-use Rattle.fs_server.proofs.Leading.{LeadEnds, aborted, lead_ends, led, put_off as server_puts_off, unled}
+use Rattle.fs_server.proofs.Leading.{LeadEnds, begun as txn_begun, lead_ends, put_off as server_puts_off, unled}
+use Rattle.fs_server.specs.Begins.{Round, leader_with, round_of, txn_of}
+use Rattle.fs_server.specs.Concludes.{admitted_of, goes_on}
+use Rattle.fs_server.specs.Counts.{after_own_vote, asked_at, done_step, done_with, vote_step, with_vote}
 use Rattle.fs_server.proofs.OneByOne.{each_entry, each_lapsed}
 use Rattle.fs_server.specs.Leads.{is_led, lead_step}
 use Rattle.fs_server.specs.Follows.{applies, is_prepared, vote_here, votes}
@@ -55,7 +71,10 @@ use Rattle.fs_server.specs.Step.{message_step, step}
 use Rattle.fs_server.specs.declared.event.ServerEvent.{ServerEvent}
 use Rattle.fs_server.specs.declared.event.ServerEvent.TheVariants.{FromClient, FromPeer, Turn, Recall as TheRecall, Move}
 use Rattle.fs_server.specs.declared.state.Server.{Server as ServerState}
+use Rattle.fs_ident.proofs.Passing.{found}
+use Rattle.fs_field.specs.Table.{same_txn}
 use Rattle.fs_serial.specs.World.{is_called, pushed}
+use Rattle.fs_world.proofs.LedEach.{each_done, each_goes, each_vote}
 use Rattle.fs_serial.proofs.Replies.Answering.{AnswerEnds, answer_ends, as_entry, as_led, as_move, as_read, not_told, put_off}
 
 -- it asks for an access where it opens
@@ -193,16 +212,54 @@ abbrev pub MessageAsks : ClientMsg → Type 0
 MessageAsks (Ship entries) = EntriesAsk entries
 MessageAsks m = Unit {0}
 
--- what is led opens nothing
+-- ## What the server leads
+
+-- it opens nothing
 led_asks : (o : Op) → is_led o ≡ true → AsksAccess o
 led_asks (op.OpenFile file x modes) h = absurd (cc)
 led_asks o h = tt
 
+-- each is a delete or a rename
+abbrev pub AreLed : List Leading → Type 0
+AreLed leading = (l : Leading) → In l leading → is_led l.leader.op ≡ true
+
+decided_fine : (d : Decision) (l : Leader) → is_led l.op ≡ true → AllFine (admitted_of d l)
+decided_fine (Commit r effects) l h = (record { asks = led_asks l.op h }, tt)
+decided_fine (Abort e) l h = tt
+
+abbrev AdmitsFine : Stepped → Type 0
+AdmitsFine x = AllFine x.out.admitted
+
+goes_fine : (n : ServerNote) (l : Leading) (sent : List (Peer × Msg)) (s : ServerState) → is_led l.leader.op ≡ true
+    → AdmitsFine (goes_on n l sent s)
+goes_fine n l sent s h = each_goes AdmitsFine n l sent s (decided_fine (decision l.leader None) l.leader h) tt
+
+vote_fine : (m : Voted) (s : ServerState) → AreLed s.leading → AdmitsFine (vote_step m s)
+vote_fine m s led = each_vote AdmitsFine m s tt
+    (λ l p to f. tt)
+    (λ l v f. goes_fine (server_note.Waits l.leader.txn) (with_vote m.number v l) [] s (among l f))
+    (λ l p f. let v : AVote = vote_here s l.leader.session p in
+    goes_fine (server_note.Waits l.leader.txn) (with_vote m.number v (asked_at m.number s.me l)) []
+    (after_own_vote l.leader.txn p v s) (among l f))
+  where
+    among : (l : Leading) → leading_of m.txn s.leading ≡ Some l → is_led l.leader.op ≡ true
+    among l f = led l (found (λ (x : Leading). same_txn x.leader.txn m.txn) s.leading l f).0
+
+left_fine : (x : Ending) (left : List (ℕ × ℕ)) (s : ServerState) → AdmitsFine (done_with x left s)
+left_fine x [] s = tt
+left_fine x (y ∷ ys) s = tt
+
+done_fine : (m : ToldDone) (s : ServerState) → AdmitsFine (done_step m s)
+done_fine m s = each_done AdmitsFine m s tt (λ x left f. left_fine (without_done m.number x) left s)
+
 lead_fine : (by : Session) (m : ToLead) (s : ServerState) (x : Stepped) → LeadEnds by m s x → AllFine x.out.admitted
 lead_fine by m s x (unled l) = tt
 lead_fine by m s x (server_puts_off w l r) = tt
-lead_fine by m s x (aborted u l r g) = tt
-lead_fine by m s x (led l r g) = (record { asks = led_asks m.op l }, tt)
+lead_fine by m s x (txn_begun l r) =
+    let g : Round = round_of by m s in
+    goes_fine (server_note.Prepares (txn_of s)) (record { leader = leader_with (txn_of s) by m g.votes; at = g.at }) g.send g.server l
+
+-- ## Each message of a session
 
 message_fine : (by : Session) (m : ClientMsg) (s : ServerState) → MessageAsks m → AllFine (message_step by m s).out.admitted
 message_fine by (Ask items dir) s a = tt
@@ -213,6 +270,8 @@ message_fine by (Ship entries) s a = elim (list_all (λ (e : Entry). tells_its_e
   | true ↦ ships_fine by entries s [] a tt
   | false ↦ tt
 ]
+
+-- ## Other events
 
 -- a reap opens nothing
 reaps_fine : (xs : List (List ℕ × Session)) (s : ServerState) (admitted : List Item) (blockers : List LeaseNo) → AllFine admitted → AllFine (reap_from xs s admitted blockers).admitted
@@ -241,20 +300,22 @@ decide_fine : (b : Bool) (from : ℕ) (m : ToDecide) (s : ServerState) → AllFi
 decide_fine true from m s = tt
 decide_fine false from m s = tt
 
-peer_fine : (from : ℕ) (m : PeerMsg) (s : ServerState) → AllFine (peer_step from m s).out.admitted
-peer_fine from (OfParcel p) s = parcel_fine (fits_here p s) p s
-peer_fine from (Prepare m) s = prepare_fine (is_prepared m.txn m.number s.prepared) (vote_here s m.session m.part) from m s
-peer_fine from (Vote m) s = tt
-peer_fine from (Decide m) s = decide_fine (is_prepared m.txn m.number s.prepared) from m s
-peer_fine from (Done m) s = tt
+peer_fine : (from : ℕ) (m : PeerMsg) (s : ServerState) → AreLed s.leading → AllFine (peer_step from m s).out.admitted
+peer_fine from (OfParcel p) s led = parcel_fine (fits_here p s) p s
+peer_fine from (Prepare m) s led = prepare_fine (is_prepared m.txn m.number s.prepared) (vote_here s m.session m.part) from m s
+peer_fine from (Vote m) s led = vote_fine m s led
+peer_fine from (Decide m) s led = decide_fine (is_prepared m.txn m.number s.prepared) from m s
+peer_fine from (Done m) s led = done_fine m s
 
 abbrev pub EventAsks : ServerEvent → Type 0
 EventAsks (FromClient by m) = MessageAsks m
 EventAsks e = Unit {0}
 
-pub step_fine : (s : ServerState) (now : ℕ) (e : ServerEvent) → EventAsks e → AllFine (step s now e).out.admitted
-step_fine s now (FromClient by m) a = message_fine by m (server_begun now s) a
-step_fine s now Turn a = let b : ServerState = server_begun now s in turn_over_fine (lapsed_in b) b
-step_fine s now (TheRecall field) a = tt
-step_fine s now (FromPeer from m) a = peer_fine from m (server_begun now s)
-step_fine s now (Move prefix to) a = let b : ServerState = server_begun now s in move_fine (move_refusal b.records b.rows b.map b.me prefix to None) prefix to b
+pub step_fine : (s : ServerState) (now : ℕ) (e : ServerEvent) → EventAsks e → AreLed s.leading → AllFine (step s now e).out.admitted
+step_fine s now (FromClient by m) a led = message_fine by m (server_begun now s) a
+step_fine s now Turn a led = let b : ServerState = server_begun now s in turn_over_fine (lapsed_in b) b
+step_fine s now (TheRecall field) a led = tt
+step_fine s now (FromPeer from m) a led = peer_fine from m (server_begun now s) led
+step_fine s now (Move prefix to) a led =
+    let b : ServerState = server_begun now s in
+    move_fine (move_refusal b.records b.rows b.map b.me prefix to None) prefix to b

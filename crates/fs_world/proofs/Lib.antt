@@ -60,6 +60,7 @@ pub mod GoesOn
 pub mod AnyReadings
 pub mod Runs
 pub mod Whole
+pub mod LedEach
 pub mod Right
 pub mod RightSteps
 pub mod RightRuns

@@ -1,7 +1,9 @@
 -- No server and no client is told what no honest actor sends, and a log is answered as is fair.
 use Rattle.std.proofs.Common.{◌≡◌, ℕ, ◌+◌, ◌/◌, ◌≤◌, max, Bool, true, false, not, ◌&&◌, List, [], ◌∷◌, cond, refl, arith}
 use Rattle.std.specs.Prelude.{◌≢◌, Option, Some, None, is_some, slice_get}
+use Rattle.fs_ident.specs.declared.actor.Peer.{Peer}
 use Rattle.fs_ident.specs.declared.actor.Session.{Session}
+use Rattle.fs_ident.specs.declared.actor.TxnNo.{TxnNo}
 use Rattle.fs_field.specs.declared.row.Row.{Row}
 use Rattle.fs_model.specs.Step.{is_empty}
 use Rattle.fs_view.specs.declared.view_lease.ViewLease.{ViewLease}
@@ -12,22 +14,34 @@ use Rattle.fs_msg.specs.declared.client_note.ClientNote.TheVariants as client_no
 use Rattle.fs_msg.specs.declared.end.End.{End}
 use Rattle.fs_msg.specs.declared.entry.Entry.{Entry}
 use Rattle.fs_msg.specs.declared.lead.Lead.{Lead as ToLead}
+use Rattle.fs_msg.specs.declared.msg.Msg.{Msg}
 use Rattle.fs_msg.specs.declared.note.Note.{Note}
 use Rattle.fs_msg.specs.declared.note.Note.TheVariants as note
 use Rattle.fs_field.specs.declared.vote.Vote.{Vote as AVote}
 use Rattle.fs_msg.specs.declared.decide.Decide.{Decide as ToDecide}
+use Rattle.fs_msg.specs.declared.done.Done.{Done as ToldDone}
 use Rattle.fs_msg.specs.declared.prepare.Prepare.{Prepare as ToPrepare}
 use Rattle.fs_msg.specs.declared.peer_msg.PeerMsg.{PeerMsg}
 use Rattle.fs_msg.specs.declared.peer_msg.PeerMsg.TheVariants.{Parcel as OfParcel, Prepare, Vote, Decide, Done}
 use Rattle.fs_msg.specs.declared.server_note.ServerNote.{ServerNote}
 use Rattle.fs_msg.specs.declared.server_note.ServerNote.TheVariants as server_note
+use Rattle.fs_msg.specs.declared.voted.Voted.{Voted}
 use Rattle.fs_parcel.specs.Parcel.{move_refusal}
 use Rattle.fs_parcel.specs.declared.error.MoveError.{MoveError}
+use Rattle.fs_record.specs.declared.led_end.LedEnd.{LedEnd}
+use Rattle.fs_record.specs.declared.led_end.LedEnd.TheVariants as led_end
 use Rattle.fs_record.specs.declared.parcel.Parcel.{Parcel}
+use Rattle.fs_txn.specs.Deciding.{decision}
+use Rattle.fs_txn.specs.Leading.{end_of_decision, without_done}
+use Rattle.fs_txn.specs.declared.leading.Ending.{Ending}
+use Rattle.fs_txn.specs.declared.leading.Leading.{Leading}
 use Rattle.fs_client.specs.Client.{begun}
 use Rattle.fs_client.specs.Turns.{ending, idle, release_some, renew_some, returned, ship_some, turn_free, turn_on, turn_plan}
 use Rattle.fs_client.specs.declared.state.Client.{Client}
-use Rattle.fs_server.proofs.Leading.{LeadEnds, aborted, lead_ends, led, put_off, unled}
+use Rattle.fs_server.proofs.Leading.{LeadEnds, begun as txn_begun, lead_ends, put_off, unled}
+use Rattle.fs_server.specs.Begins.{Round, leader_with, round_of, txn_of}
+use Rattle.fs_server.specs.Concludes.{end_note, goes_on}
+use Rattle.fs_server.specs.Counts.{after_own_vote, asked_at, done_step, done_with, vote_step, with_vote}
 use Rattle.fs_server.specs.Leads.{lead_step}
 use Rattle.fs_server.specs.Follows.{applies, is_prepared, vote_here, votes}
 use Rattle.fs_server.specs.Moves.{fits_here, move_at, parcel_at, peer_step}
@@ -41,6 +55,7 @@ use Rattle.fs_serial.specs.Cluster.{Cluster, IsThere, after_step}
 use Rattle.fs_serial.specs.Refusals.{IsFairEnd, IsFairNote, rows_in}
 use Rattle.fs_serial.specs.Seen.{ClusterHolds}
 use Rattle.fs_world.specs.Refusals.{IsFair, is_core_strange}
+use Rattle.fs_world.proofs.LedEach.{each_done, each_goes, each_vote}
 use Rattle.fs_world.proofs.SerialLaws.{SerialLaws}
 
 -- of an answer to a log: so many entries, how it ends, and what is held back
@@ -110,18 +125,47 @@ decide_fair : (ok : Answers) (b : Bool) (from : ℕ) (m : ToDecide) (s : Server)
 decide_fair ok true from m s = tt
 decide_fair ok false from m s = tt
 
+-- how a transaction ends is no answer to a log
+end_fair : (ok : Answers) (txn : TxnNo) (e : LedEnd) → IsFair ok (note.Server (end_note txn e))
+end_fair ok txn (led_end.Done r) = tt
+end_fair ok txn (led_end.Ended lease until now) = tt
+end_fair ok txn (led_end.Again w) = tt
+
+abbrev NotesFair : Answers → Stepped → Type 0
+NotesFair ok x = IsFair ok (note.Server x.out.note)
+
+goes_fair : (ok : Answers) (n : ServerNote) (l : Leading) (sent : List (Peer × Msg)) (s : Server) → IsFair ok (note.Server n)
+    → NotesFair ok (goes_on n l sent s)
+goes_fair ok n l sent s h = each_goes (NotesFair ok) n l sent s (end_fair ok l.leader.txn (end_of_decision (decision l.leader None))) h
+
+vote_fair : (ok : Answers) (m : Voted) (s : Server) → NotesFair ok (vote_step m s)
+vote_fair ok m s = each_vote (NotesFair ok) m s tt
+    (λ l p to f. tt)
+    (λ l v f. goes_fair ok (server_note.Waits l.leader.txn) (with_vote m.number v l) [] s tt)
+    (λ l p f. let v : AVote = vote_here s l.leader.session p in
+    goes_fair ok (server_note.Waits l.leader.txn) (with_vote m.number v (asked_at m.number s.me l)) []
+    (after_own_vote l.leader.txn p v s) tt)
+
+left_fair : (ok : Answers) (x : Ending) (left : List (ℕ × ℕ)) (s : Server) → NotesFair ok (done_with x left s)
+left_fair ok x [] s = tt
+left_fair ok x (y ∷ ys) s = tt
+
+done_fair : (ok : Answers) (m : ToldDone) (s : Server) → NotesFair ok (done_step m s)
+done_fair ok m s = each_done (NotesFair ok) m s tt (λ x left f. left_fair ok (without_done m.number x) left s)
+
 peer_fair : (ok : Answers) (from : ℕ) (m : PeerMsg) (s : Server) → IsFair ok (note.Server (peer_step from m s).out.note)
 peer_fair ok from (OfParcel p) s = parcel_fair ok (fits_here p s) p s
 peer_fair ok from (Prepare m) s = prepare_fair ok (is_prepared m.txn m.number s.prepared) (vote_here s m.session m.part) from m s
-peer_fair ok from (Vote m) s = tt
+peer_fair ok from (Vote m) s = vote_fair ok m s
 peer_fair ok from (Decide m) s = decide_fair ok (is_prepared m.txn m.number s.prepared) from m s
-peer_fair ok from (Done m) s = tt
+peer_fair ok from (Done m) s = done_fair ok m s
 
 lead_fair : (ok : Answers) (by : Session) (m : ToLead) (s : Server) (x : Stepped) → LeadEnds by m s x → IsFair ok (note.Server x.out.note)
 lead_fair ok by m s x (unled l) = tt
 lead_fair ok by m s x (put_off w l r) = tt
-lead_fair ok by m s x (aborted u l r g) = tt
-lead_fair ok by m s x (led l r g) = tt
+lead_fair ok by m s x (txn_begun l r) =
+    let g : Round = round_of by m s in
+    goes_fair ok (server_note.Prepares (txn_of s)) (record { leader = leader_with (txn_of s) by m g.votes; at = g.at }) g.send g.server tt
 
 -- where each fair answer to the entries is one of these, so is what is noted
 ship_fair : (ok : Answers) (rows : List Row) (by : Session) (now : ℕ) (entries : List Entry) (n : ServerNote) → ((count : ℕ) (at : End) (gaps : List ℕ) → IsFairEnd rows by now entries count at gaps → ok count at gaps) → IsFairNote rows by now entries n → IsFair ok (note.Server n)

@@ -1,6 +1,7 @@
 -- Whose rows a server has, and to whom it sends: the sessions that asked.
-use Rattle.std.proofs.Common.{◌≡◌, ℕ, Bool, true, false, List, [], ◌∷◌, ◌++◌, map, not, Option, Some, None, refl, sym, ap, subst, cond, ◌∙◌, inl, inr}
-use Rattle.std.specs.Prelude.{◌&&◌, is_some, nat_lt}
+use Rattle.std.proofs.Common.{◌≡◌, ℕ, ◌+◌, Bool, true, false, List, [], ◌∷◌, ◌++◌, map, not, Option, Some, None}
+use Rattle.std.proofs.Common.{refl, sym, ap, subst, cond, ◌∙◌, inl, inr}
+use Rattle.std.specs.Prelude.{◌&&◌, is_some}
 use Rattle.std.specs.List.{AllByRecursion, filter, find, list_all}
 use Rattle.fs_ident.specs.Ident.{child}
 use Rattle.fs_ident.specs.In.{In}
@@ -8,6 +9,7 @@ use Rattle.fs_ident.specs.declared.actor.LeaseNo.{LeaseNo}
 use Rattle.fs_ident.specs.declared.actor.Peer.{Peer}
 use Rattle.fs_ident.specs.declared.actor.Peer.TheVariants.{Client, Server as OfServer}
 use Rattle.fs_ident.specs.declared.actor.Session.{Session}
+use Rattle.fs_ident.specs.declared.actor.TxnNo.{TxnNo}
 use Rattle.fs_ident.proofs.Passing.{found}
 use Rattle.fs_ident.proofs.Standing.{In-filter, In-map, In-put}
 use Rattle.fs_field.specs.declared.field.Field.{Field}
@@ -15,9 +17,13 @@ use Rattle.fs_field.specs.declared.field.Field.TheVariants.{Life}
 use Rattle.fs_field.specs.declared.lease_kind.LeaseKind.{LeaseKind}
 use Rattle.fs_field.specs.declared.lease_kind.LeaseKind.TheVariants.{Exclusive}
 use Rattle.fs_field.specs.declared.row.Row.{Row}
+use Rattle.fs_field.specs.declared.used.Part.{Part}
+use Rattle.fs_field.specs.declared.used.Use.{Use}
 use Rattle.fs_field.specs.Field.{file_of, same_field}
-use Rattle.fs_field.specs.Table.{borne_numbers, has_no, is_live, no_before, renewed_row, with_row}
+use Rattle.fs_field.specs.Table.{borne_numbers, has_no, is_live, no_before, renewed_row, same_txn, unlocked_row, with_row}
+use Rattle.fs_field.proofs.Leases.{SameLease, renewed_same, unlocked_same}
 use Rattle.fs_map.specs.Lists.{piece_of}
+use Rattle.fs_map.specs.Map.{server_of}
 use Rattle.fs_parcel.specs.Parcel.{move_refusal}
 use Rattle.fs_parcel.specs.declared.error.MoveError.{MoveError}
 use Rattle.fs_rows.specs.Granted.{with_rows}
@@ -37,16 +43,33 @@ use Rattle.fs_msg.specs.declared.lead.Lead.{Lead as ToLead}
 use Rattle.fs_msg.specs.declared.msg.Msg.{Msg}
 use Rattle.fs_msg.specs.declared.msg.Msg.TheVariants as msg
 use Rattle.fs_field.specs.declared.vote.Vote.{Vote as AVote}
+use Rattle.fs_field.specs.declared.vote.Vote.TheVariants as the_vote
 use Rattle.fs_msg.specs.declared.decide.Decide.{Decide as ToDecide}
+use Rattle.fs_msg.specs.declared.done.Done.{Done as ToldDone}
 use Rattle.fs_msg.specs.declared.prepare.Prepare.{Prepare as ToPrepare}
 use Rattle.fs_msg.specs.declared.peer_msg.PeerMsg.{PeerMsg}
 use Rattle.fs_msg.specs.declared.peer_msg.PeerMsg.TheVariants.{Parcel as OfParcel, Prepare, Vote, Decide, Done}
+use Rattle.fs_msg.specs.declared.server_note.ServerNote.{ServerNote}
+use Rattle.fs_msg.specs.declared.server_note.ServerNote.TheVariants as note
+use Rattle.fs_msg.specs.declared.voted.Voted.{Voted}
 use Rattle.fs_record.specs.Effects.{tells_its_effects}
-use Rattle.fs_server.proofs.Leading.{LeadEnds, aborted, lead_ends, led, put_off, unled}
+use Rattle.fs_record.specs.declared.led_end.LedEnd.{LedEnd}
+use Rattle.fs_txn.specs.Deciding.{decision}
+use Rattle.fs_txn.specs.Leading.{elsewhere, end_of_decision, leading_of, without_done}
+use Rattle.fs_txn.specs.Locks.{rows_unlocked}
+use Rattle.fs_txn.specs.Preparing.{row_locked, rows_voted}
+use Rattle.fs_txn.specs.declared.decision.Decision.{Decision}
+use Rattle.fs_txn.specs.declared.leading.Ending.{Ending}
+use Rattle.fs_txn.specs.declared.leading.Leading.{Leading}
+use Rattle.fs_txn.proofs.Locking.{used_same}
+use Rattle.fs_server.proofs.Leading.{LeadEnds, begun as txn_begun, lead_ends, put_off, unled}
 use Rattle.fs_server.proofs.OneByOne.{each_item, reaps_leave, ships_leave}
+use Rattle.fs_server.specs.Begins.{Round, begins, first_round, leader_with, part_round, parts_in, round_of, rounds, txn_of}
+use Rattle.fs_server.specs.Concludes.{ends_now, goes_on, keeps_for, tells}
+use Rattle.fs_server.specs.Counts.{after_own_vote, ask_for, asked_at, done_step, done_with, vote_step, with_vote}
 use Rattle.fs_server.specs.Leads.{lead_step}
 use Rattle.fs_server.specs.Asks.{Asking, ask_fresh, ask_from, ask_step, asked_in, fresh_for, fresh_in, fresh_of, kind_for, recall_of, recalls_at, with_lease}
-use Rattle.fs_server.specs.Follows.{applies, is_prepared, vote_here, votes}
+use Rattle.fs_server.specs.Follows.{applies, is_prepared, to_server, vote_here, votes}
 use Rattle.fs_server.proofs.Following.{IsOneOf, decided_rows, voted_rows}
 use Rattle.fs_server.specs.Moves.{fits_here, move_at, parcel_at, peer_step}
 use Rattle.fs_server.specs.Pairs.{numbers_in, pairs_here, released_rows, renewed_rows}
@@ -60,6 +83,8 @@ use Rattle.fs_server.specs.declared.state.Server.{Server}
 use Rattle.std.specs.Prelude.{IfSome}
 use Rattle.fs_serial.specs.Cluster.{parcel_in}
 use Rattle.fs_serial.proofs.Moves.Parcels.{if_some}
+use Rattle.fs_serial.proofs.Transactions.RoundsLocks.{round_by}
+use Rattle.fs_world.proofs.LedEach.{each_done, each_goes, each_vote}
 
 -- each row is of one of these sessions
 abbrev pub AreOf : (Session → Type 0) → List Row → Type 0
@@ -131,6 +156,11 @@ module _ (these : Session → Type 0) where
   IsAsked (FromPeer from m) = BringsOf these m
   IsAsked e = Unit {0}
 
+  -- what the server leads is for these sessions
+  pub record LedOf (s : Server) : Type 0 where
+    pub leading : (l : Leading) → In l s.leading → these l.leader.session
+    pub ending : (x : Ending) → In x s.ending → these x.session
+
   -- the rows that a step leaves are of these sessions, and so is whoever it sends to
   pub record IsOf (x : Stepped) : Type 0 where
     pub rows : AreOf these x.server.rows
@@ -154,18 +184,16 @@ module _ (these : Session → Type 0) where
   lent : (by : Session) (field : Field) (kind : LeaseKind) (promise : Option Bool) (s : Server) → these by → AreOf these s.rows → AreOf these (with_lease by field kind promise s).rows
   lent by field kind promise s h all row i = put _ s.rows h all row i
 
-  session_kept : (n : LeaseNo) (until : ℕ) (r : Row) → (renewed_row n until r).session ≡ r.session
-  session_kept n until r = either (has_no n r && nat_lt r.until until)
-    where
-      either : (b : Bool) → (cond b (record r { until = until }) r).session ≡ r.session
-      either true = refl
-      either false = refl
+  -- what leaves the leases leaves their sessions
+  mapped : (f : Row → Row) → ((r : Row) → SameLease r (f r)) → (rows : List Row) → AreOf these rows → AreOf these (map f rows)
+  mapped f same rows h row i =
+      let at = In-map f row rows i in
+      subst these (sym (ap (λ (r : Row). r.session) at.1.1 ∙ (same at.0).session)) (h at.0 at.1.0)
 
   pub renewed : (until : ℕ) (ns : List LeaseNo) (rows : List Row) → AreOf these rows → AreOf these (renewed_rows until ns rows)
   renewed until [] rows h = h
-  renewed until (n ∷ ns) rows h = renewed until ns (map (renewed_row n until) rows) (λ row i.
-      let at = In-map (renewed_row n until) row rows i in
-      subst these (sym (ap (λ (r : Row). r.session) at.1.1 ∙ session_kept n until at.0)) (h at.0 at.1.0))
+  renewed until (n ∷ ns) rows h =
+      renewed until ns (map (renewed_row n until) rows) (mapped (renewed_row n until) (renewed_same n until) rows h)
 
   pub released : (ns : List LeaseNo) (rows : List Row) → AreOf these rows → AreOf these (released_rows ns rows)
   released [] rows h = h
@@ -225,12 +253,95 @@ module _ (these : Session → Type 0) where
       either true = record { rows = after_entries by entries s [] h; sends = (p, tt) }
       either false = strange_of s h
 
-  -- what is led changes no row
+  -- ## What the server leads
+
+  voted_rows_of : (v : AVote) (txn : TxnNo) (uses : List Use) (rows : List Row) → AreOf these rows
+      → AreOf these (rows_voted v txn uses rows)
+  voted_rows_of the_vote.Yes txn uses rows h = mapped (row_locked txn uses) (used_same txn uses) rows h
+  voted_rows_of (the_vote.Ended lease until now) txn uses rows h = h
+  voted_rows_of (the_vote.Moved prefix to) txn uses rows h = h
+  voted_rows_of (the_vote.PathsOut lease) txn uses rows h = h
+
+  unlocked_rows_of : (txn : TxnNo) (rows : List Row) → AreOf these rows → AreOf these (rows_unlocked txn rows)
+  unlocked_rows_of txn rows h = mapped (unlocked_row txn) (unlocked_same txn) rows h
+
+  tells_of : (txn : TxnNo) (d : Decision) (out : List (ℕ × ℕ)) → AreSentTo these (tells txn d out)
+  tells_of txn d [] = tt
+  tells_of txn d (x ∷ xs) = (tt, tells_of txn d xs)
+
+  ends_of : (out : List (ℕ × ℕ)) (by : Session) (e : LedEnd) → these by → AreSentTo these (ends_now out by e)
+  ends_of [] by e p = (p, tt)
+  ends_of (x ∷ xs) by e p = tt
+
+  sent_more : (xs ys : List (Peer × Msg)) → AreSentTo these xs → AreSentTo these ys → AreSentTo these (xs ++ ys)
+  sent_more = passed_more these (λ (x : Peer × Msg). IsSentTo these x) (λ s n h. h)
+
+  goes_of : (n : ServerNote) (l : Leading) (sent : List (Peer × Msg)) (s : Server) → these l.leader.session
+      → AreSentTo these sent → AreOf these s.rows → IsOf (goes_on n l sent s)
+  goes_of n l sent s p g h =
+      let d : Decision = decision l.leader None in
+      let out : List (ℕ × ℕ) = elsewhere s.me l in
+      let told = tells l.leader.txn d out in
+      let ends = ends_now out l.leader.session (end_of_decision d) in
+      each_goes IsOf n l sent s
+      (record {
+        rows = elim (keeps_for d out) as (λ b. AreOf these (cond b s.rows (rows_unlocked l.leader.txn s.rows))) [
+          | true ↦ h
+          | false ↦ unlocked_rows_of l.leader.txn s.rows h
+        ];
+        sends = sent_more sent (told ++ ends) g
+            (sent_more told ends (tells_of l.leader.txn d out) (ends_of out l.leader.session (end_of_decision d) p));
+      })
+      (record { rows = h; sends = g })
+
+  -- its parts vote, or are asked for
+  pub record RoundOf (r : Round) : Type 0 where
+    pub rows : AreOf these r.server.rows
+    pub sends : AreSentTo these r.send
+
+  rounds_of : (txn : TxnNo) (number : ℕ) (by : Session) (ps : List Part) (r : Round) → RoundOf r → RoundOf (rounds txn number by ps r)
+  rounds_of txn number by [] r h = h
+  rounds_of txn number by (p ∷ ps) r h = rounds_of txn (number + 1) by ps (part_round txn number by p r)
+      (elim (is_mine r.server p.file) as (λ b. RoundOf (round_by txn number by p r b)) [
+        | true ↦ record { rows = voted_rows_of (vote_here r.server by p) txn p.uses r.server.rows h.rows; sends = h.sends }
+        | false ↦ record {
+          rows = h.rows;
+          sends = sent_more r.send (to_server (server_of r.server.map p.file) (ask_for txn number by p) ∷ []) h.sends (tt, tt);
+        }
+      ])
+
+  begins_of : (by : Session) (m : ToLead) (s : Server) → these by → AreOf these s.rows → IsOf (begins by m s)
+  begins_of by m s p h =
+      let g : Round = round_of by m s in
+      let all : RoundOf g = rounds_of (txn_of s) 0 by (parts_in m) (first_round s) (record { rows = h; sends = tt }) in
+      goes_of (note.Prepares (txn_of s)) (record { leader = leader_with (txn_of s) by m g.votes; at = g.at }) g.send g.server
+      p all.sends all.rows
+
+  vote_of : (m : Voted) (s : Server) → LedOf s → AreOf these s.rows → IsOf (vote_step m s)
+  vote_of m s led h = each_vote IsOf m s (strange_of s h)
+      (λ l p to f. record { rows = h; sends = (tt, tt) })
+      (λ l v f. goes_of (note.Waits l.leader.txn) (with_vote m.number v l) [] s (its l f) tt h)
+      (λ l p f. let v : AVote = vote_here s l.leader.session p in
+      goes_of (note.Waits l.leader.txn) (with_vote m.number v (asked_at m.number s.me l)) []
+      (after_own_vote l.leader.txn p v s) (its l f) tt (voted_rows_of v l.leader.txn p.uses s.rows h))
+    where
+      its : (l : Leading) → leading_of m.txn s.leading ≡ Some l → these l.leader.session
+      its l f = led.leading l (found (λ (x : Leading). same_txn x.leader.txn m.txn) s.leading l f).0
+
+  left_of : (x : Ending) (left : List (ℕ × ℕ)) (s : Server) → these x.session → AreOf these s.rows → IsOf (done_with x left s)
+  left_of x [] s p h = record { rows = unlocked_rows_of x.txn s.rows h; sends = (p, tt) }
+  left_of x (y ∷ ys) s p h = record { rows = h; sends = tt }
+
+  done_of : (m : ToldDone) (s : Server) → LedOf s → AreOf these s.rows → IsOf (done_step m s)
+  done_of m s led h = each_done IsOf m s (strange_of s h)
+      (λ x left f. left_of (without_done m.number x) left s (led.ending x (found (λ (y : Ending). same_txn y.txn m.txn) s.ending x f).0) h)
+
   lead_of : (by : Session) (m : ToLead) (s : Server) (x : Stepped) → LeadEnds by m s x → these by → AreOf these s.rows → IsOf x
   lead_of by m s x (unled l) p h = strange_of s h
   lead_of by m s x (put_off w l r) p h = record { rows = h; sends = (p, tt) }
-  lead_of by m s x (aborted u l r g) p h = record { rows = h; sends = (p, tt) }
-  lead_of by m s x (led l r g) p h = record { rows = h; sends = (p, tt) }
+  lead_of by m s x (txn_begun l r) p h = begins_of by m s p h
+
+  -- ## Each message of a session
 
   message_of : (by : Session) (m : ClientMsg) (s : Server) → these by → AreOf these s.rows → IsOf (message_step by m s)
   message_of by (Ask items fresh) s p h = ask_of by items fresh s p h
@@ -284,22 +395,27 @@ module _ (these : Session → Type 0) where
   decide_of true from m s h = record { rows = λ row i. one_of s.rows row h (decided_rows from m s row i); sends = (tt, tt) }
   decide_of false from m s h = strange_of s h
 
-  peer_of : (from : ℕ) (m : PeerMsg) (s : Server) → BringsOf these m → AreOf these s.rows → IsOf (peer_step from m s)
-  peer_of from (OfParcel p) s come h = parcel_of (fits_here p s) p s come h
-  peer_of from (Prepare m) s come h = prepare_of (is_prepared m.txn m.number s.prepared) (vote_here s m.session m.part) from m s h
-  peer_of from (Vote m) s come h = strange_of s h
-  peer_of from (Decide m) s come h = decide_of (is_prepared m.txn m.number s.prepared) from m s h
-  peer_of from (Done m) s come h = strange_of s h
+  peer_of : (from : ℕ) (m : PeerMsg) (s : Server) → BringsOf these m → LedOf s → AreOf these s.rows → IsOf (peer_step from m s)
+  peer_of from (OfParcel p) s come led h = parcel_of (fits_here p s) p s come h
+  peer_of from (Prepare m) s come led h = prepare_of (is_prepared m.txn m.number s.prepared) (vote_here s m.session m.part) from m s h
+  peer_of from (Vote m) s come led h = vote_of m s led h
+  peer_of from (Decide m) s come led h = decide_of (is_prepared m.txn m.number s.prepared) from m s h
+  peer_of from (Done m) s come led h = done_of m s led h
 
   -- ## An event
 
-  event_of : (e : ServerEvent) (s : Server) → IsAsked e → AreOf these s.rows → IsOf (event_step e s)
-  event_of (FromClient by m) s p h = message_of by m s p h
-  event_of (FromPeer from m) s come h = peer_of from m s come h
-  event_of Turn s p h = turn_of (lapsed_in s) s h
-  event_of (Recall field) s p h = record { rows = h; sends = recall_sent these (λ (x : Peer × Msg). IsSentTo these x) (λ s n h. h) (is_mine s (file_of field)) field s.rows h }
-  event_of (Move prefix to) s p h = move_of (move_refusal s.records s.rows s.map s.me prefix to None) prefix to s h
+  event_of : (e : ServerEvent) (s : Server) → IsAsked e → LedOf s → AreOf these s.rows → IsOf (event_step e s)
+  event_of (FromClient by m) s p led h = message_of by m s p h
+  event_of (FromPeer from m) s come led h = peer_of from m s come led h
+  event_of Turn s p led h = turn_of (lapsed_in s) s h
+  event_of (Recall field) s p led h =
+      record {
+        rows = h;
+        sends = recall_sent these (λ (x : Peer × Msg). IsSentTo these x) (λ s n h. h) (is_mine s (file_of field)) field s.rows h;
+      }
+  event_of (Move prefix to) s p led h = move_of (move_refusal s.records s.rows s.map s.me prefix to None) prefix to s h
 
   -- a step keeps the rows of these sessions, and sends to these alone
-  pub step_of : (s : Server) (now : ℕ) (e : ServerEvent) → IsAsked e → AreOf these s.rows → IsOf (step s now e)
-  step_of s now e p h = event_of e (begun now s) p (filtered (is_live (begun now s).last s.skew) s.rows h)
+  pub step_of : (s : Server) (now : ℕ) (e : ServerEvent) → IsAsked e → AreOf these s.rows → LedOf s → IsOf (step s now e)
+  step_of s now e p h led = event_of e (begun now s) p (record { leading = led.leading; ending = led.ending })
+      (filtered (is_live (begun now s).last s.skew) s.rows h)
