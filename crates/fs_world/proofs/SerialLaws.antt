@@ -1,5 +1,5 @@
 -- The laws of servers and their clients on which those of worlds rest.
-use Rattle.std.proofs.Common.{◌≡◌, ℕ, ◌+◌, ◌≤◌, max, List, Some, sym, subst, arith}
+use Rattle.std.proofs.Common.{◌≡◌, ◌∙◌, ℕ, ◌+◌, ◌≤◌, max, true, List, Some, refl, ap, sym, subst, arith}
 use Rattle.std.specs.Prelude.{◌≢◌, slice_get}
 use Rattle.fs_ident.specs.In.{In}
 use Rattle.fs_ident.specs.declared.actor.Session.{Session}
@@ -11,6 +11,10 @@ use Rattle.fs_msg.specs.declared.client_note.ClientNote.TheVariants as client_no
 use Rattle.fs_msg.specs.declared.entry.Entry.{Entry}
 use Rattle.fs_msg.specs.declared.server_note.ServerNote.TheVariants as server_note
 use Rattle.fs_client.specs.Answers.{answer_plan}
+use Rattle.fs_client.specs.Led.{lead_of}
+use Rattle.fs_client.specs.declared.led.Led.{Led}
+use Rattle.fs_txn.specs.declared.leading.Leading.{Leading}
+use Rattle.fs_server.specs.Leads.{is_led}
 use Rattle.fs_server.specs.Step.{step}
 use Rattle.fs_server.specs.declared.event.ServerEvent.{ServerEvent}
 use Rattle.fs_server.specs.declared.event.ServerEvent.TheVariants.{FromClient}
@@ -19,9 +23,11 @@ use Rattle.fs_serial.specs.Cluster.{CanCome, ClientEvent, Cluster, IsThere, Line
 use Rattle.fs_serial.specs.Cluster.ClientEvent.{Hears}
 use Rattle.fs_serial.specs.Exchange.{LeadsTold, OneExchange}
 use Rattle.fs_serial.specs.Refusals.{IsFairStep}
-use Rattle.fs_serial.specs.Leading.{LedHolds}
+use Rattle.fs_serial.specs.Leading.{IsLeading, LedHolds}
 use Rattle.fs_serial.specs.Owed.{ends_in}
 use Rattle.fs_serial.specs.Seen.{ClusterHolds, IsAddressed}
+use Rattle.fs_serial.proofs.Transactions.Undecided.{stands, up_led}
+use Rattle.fs_serial.proofs.WholeRuns.LedKept.{led_op}
 
 pub record SerialLaws : Type 0 where
   -- every event of a server keeps all that holds, and the greatest reading may rise
@@ -64,6 +70,8 @@ pub record EventLaws : Type 1 where
   pub exchanges : (skew greatest : ℕ) (s : Server) (c : Cluster) (x : Session) → In s c.servers → Holds skew greatest c → AsksOne c x
   -- what servers lead is of sessions that wait for it
   pub led : (skew greatest : ℕ) (c : Cluster) → Holds skew greatest c → LedHolds c
+  -- and that is deletes and renames
+  pub leads : (skew greatest : ℕ) (s : Server) (c : Cluster) → In s c.servers → Holds skew greatest c → (l : Leading) → In l s.leading → is_led l.leader.op ≡ true
 
 -- of all parts
 pub all_clock : (skew greatest : ℕ) (s : Server) (c : Cluster) → In s c.servers → ClusterHolds skew greatest c → s.last ≤ greatest
@@ -81,6 +89,14 @@ all_owned skew greatest s c x i h = ((h.parts s i).0.clients x).session
 pub all_exchanges : (skew greatest : ℕ) (s : Server) (c : Cluster) (x : Session) → In s c.servers → ClusterHolds skew greatest c → AsksOne c x
 all_exchanges skew greatest s c x i h = let e = (h.parts s i).0.exchanges x in record { one = e.one; leads = e.leads; addressed = h.addressed x }
 
+pub all_leads : (skew greatest : ℕ) (s : Server) (c : Cluster) → In s c.servers → ClusterHolds skew greatest c → (l : Leading) → In l s.leading → is_led l.leader.op ≡ true
+all_leads skew greatest s c i h l j =
+    let q : IsLeading c.lines s h.led.parts l = h.led.leading s i l j in
+    let by : Session = l.leader.session in
+    let d : Led = q.led in
+    let up = up_led skew greatest c s i h by s i l j refl d q.client.led in
+    ap is_led q.leader.op ∙ led_op d.entry.op d.entry.reply (stands skew greatest c s i h by (lead_of d) up d q.client.led).leads
+
 -- in time is an event where no reading before it is ahead of its own by more than the skew
 abbrev pub timed : SerialLaws → EventLaws
 timed laws = record {
@@ -96,4 +112,5 @@ timed laws = record {
   owned = all_owned;
   exchanges = all_exchanges;
   led = λ skew greatest c h. h.led;
+  leads = all_leads;
 }

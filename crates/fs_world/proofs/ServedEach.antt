@@ -74,19 +74,21 @@ all_hold (e ∷ es) laws count skew greatest tale p x k c at h now from next =
 
 -- ## A session has one question on its way
 
-none_of : {X Y : Type 0} (f : X → Y) (xs : List X) → map f xs ≡ [] → length xs ≤ 1
-none_of f [] e = omega arith
-none_of f (x ∷ xs) e = absurd (cc)
+none_of : {X Y : Type 0} (f : X → Y) (xs : List X) (more : List Y) → map f xs ++ more ≡ [] → length xs ≤ 1
+none_of f [] more e = omega arith
+none_of f (x ∷ xs) more e = absurd (cc)
 
-one_of : {X Y : Type 0} (f : X → Y) (xs : List X) (y : Y) → map f xs ≡ y ∷ [] → length xs ≤ 1
-one_of f [] y e = omega arith
-one_of f (x ∷ []) y e = omega arith
-one_of f (x ∷ z ∷ xs) y e = absurd (cc)
+one_of : {X Y : Type 0} (f : X → Y) (xs : List X) (more : List Y) (y : Y) → map f xs ++ more ≡ y ∷ [] → length xs ≤ 1
+one_of f [] more y e = omega arith
+one_of f (x ∷ []) more y e = omega arith
+one_of f (x ∷ z ∷ xs) more y e = absurd (cc)
 
-pub few_up : (c : ClientCore) (o : Option Exchange) (up : List (ℕ × ClientMsg)) (down : List Answer) → OneExchange c o (map (λ (m : ℕ × ClientMsg). m.1) up) down → length up ≤ 1
-few_up c None up down h = none_of (λ (m : ℕ × ClientMsg). m.1) up h.0
-few_up c (Some x) up down (inl a) = one_of (λ (m : ℕ × ClientMsg). m.1) up a.message a.asked
-few_up c (Some x) up down (inr a) = none_of (λ (m : ℕ × ClientMsg). m.1) up a.asked
+-- what its leader has taken counts too
+pub few_up : (c : ClientCore) (o : Option Exchange) (up : List (ℕ × ClientMsg)) (taken : List ClientMsg) (down : List Answer)
+    → OneExchange c o (map (λ (m : ℕ × ClientMsg). m.1) up ++ taken) down → length up ≤ 1
+few_up c None up taken down h = none_of (λ (m : ℕ × ClientMsg). m.1) up taken h.0
+few_up c (Some x) up taken down (inl a) = one_of (λ (m : ℕ × ClientMsg). m.1) up taken a.message a.asked
+few_up c (Some x) up taken down (inr a) = none_of (λ (m : ℕ × ClientMsg). m.1) up taken a.asked
 
 none_found : {X : Type 0} (o : Option X) (x : X) → o ≡ None → o ≡ Some x → ⊥
 none_found o x e f = absurd (cc)
