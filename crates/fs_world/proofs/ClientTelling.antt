@@ -6,7 +6,7 @@ use Rattle.fs_ident.specs.In.{In}
 use Rattle.fs_ident.specs.declared.actor.Peer.TheVariants.{Client}
 use Rattle.fs_ident.specs.declared.actor.Session.{Session}
 use Rattle.fs_ident.proofs.Passing.{found}
-use Rattle.fs_ident.proofs.Standing.{In-mapped}
+use Rattle.fs_ident.proofs.Standing.{In-behind, In-mapped}
 use Rattle.fs_field.specs.declared.asked.Need.{Need}
 use Rattle.fs_field.specs.declared.asked.Need.TheVariants as need
 use Rattle.fs_model.specs.Step.{is_empty}
@@ -50,8 +50,8 @@ use Rattle.fs_serial.proofs.Grants.RowKinds.{In-kept}
 use Rattle.fs_serial.proofs.Lists.Traffic.{messages}
 use Rattle.fs_world.specs.Coming.{item_with, items_with, led_item}
 use Rattle.fs_world.specs.Order.{Agrees, Leads, SameButId, ReplyGiven, ended_in, leads_in, replies_in, reply_given, told_with}
-use Rattle.fs_world.proofs.Coming.{heard_comes, led_after, one_comes, quiet_comes}
-use Rattle.fs_world.proofs.RepliesGiven.{TellsOf}
+use Rattle.fs_world.proofs.Coming.{heard_comes, led_after, more_come, one_comes, quiet_comes}
+use Rattle.fs_world.proofs.RepliesGiven.{TellsOf, tells_done, tells_freed, tells_led, tells_none, tells_one}
 
 -- ## What a client makes of an operation
 
@@ -82,7 +82,8 @@ same_op (op.Delete dir name) = refl
 same_op (op.Rename sdir sname ddir dname) = refl
 same_op (op.Reap file session) = refl
 
-module _ (s : Session) (o : Op) (c : ClientState) (own : c.session ≡ s) (down : List (ℕ × Answer)) (quiet : c.exchange ≡ None → due (messages down) ≡ []) (leads : Leads) where
+module _ (s : Session) (o : Op) (c : ClientState) (own : c.session ≡ s) (down : List Answer)
+    (quiet : c.exchange ≡ None → due down ≡ []) (leads : Leads) where
   -- what the plan tells is what its change answers
   abbrev Tells : Plan Act → Type 0
   Tells p = TellsOf s c.led (led_after p.ready.change c.led) down down (told_by s p.ready.change p.out.admitted) (replies_in s o (note.Act p.out.note ∷ [])) leads (leads_in s o (note.Act p.out.note ∷ []) leads)
@@ -126,7 +127,8 @@ module _ (s : Session) (o : Op) (c : ClientState) (own : c.session ≡ s) (down 
   on_tells (Some n) = tells_none refl refl refl refl refl
   on_tells None = unless_tells c.led refl
 
-pub act_tells : (s : Session) (o : Op) (c : ClientState) (now : ℕ) → c.session ≡ s → (down : List (ℕ × Answer)) → (c.exchange ≡ None → due (messages down) ≡ []) → (leads : Leads)
+pub act_tells : (s : Session) (o : Op) (c : ClientState) (now : ℕ) → c.session ≡ s
+    → (down : List Answer) → (c.exchange ≡ None → due down ≡ []) → (leads : Leads)
     → TellsOf s c.led (led_after (act_plan c now o).ready.change c.led) down down (told_by s (act_plan c now o).ready.change (act_plan c now o).out.admitted) (replies_in s o (note.Act (act_plan c now o).out.note ∷ [])) leads (leads_in s o (note.Act (act_plan c now o).out.note ∷ []) leads)
 act_tells s o c now own down quiet leads = on_tells s o (begun now c) own down quiet leads c.over
 
@@ -137,33 +139,51 @@ pub quiet_note : (s : Session) (lead : Option Op) (n : Note) → reply_given n �
 quiet_note s None n e = refl
 quiet_note s (Some o) n e = ap (λ r. told_with s o r ++ []) e
 
-module _ (s : Session) (k : ℕ) (raw : ClientState) (now : ℕ) (up : List ClientMsg) (down : List (ℕ × Answer)) (one : OneExchange raw raw.exchange up (messages down)) (leads : Leads) (asked : (d : Led) → raw.led ≡ Some d → leads s ≡ Some d.entry.op) where
+module _ (s : Session) (k : ℕ) (raw : ClientState) (now : ℕ) (up : List ClientMsg) (owed : List Answer) (down : List (ℕ × Answer))
+    (one : OneExchange raw raw.exchange up (owed ++ messages down)) (leads : Leads)
+    (asked : (d : Led) → raw.led ≡ Some d → leads s ≡ Some d.entry.op) where
   abbrev c : ClientState
   c = begun now raw
 
-  abbrev rest : List (ℕ × Answer)
-  rest = without_first (is_with k) down
+  -- what is owed stands in front of what is on its way
+  abbrev coming : List Answer
+  coming = owed ++ messages down
+
+  abbrev rest : List Answer
+  rest = owed ++ messages (without_first (is_with k) down)
 
   abbrev Hears : Plan ClientNote → Type 0
-  Hears p = TellsOf s raw.led (led_after p.ready.change raw.led) down rest (told_by s p.ready.change p.out.admitted) (ended_in s (leads s) (note.Client p.out.note ∷ [])) leads leads
+  Hears p =
+      TellsOf s raw.led (led_after p.ready.change raw.led) coming rest (told_by s p.ready.change p.out.admitted)
+      (ended_in s (leads s) (note.Client p.out.note ∷ [])) leads leads
 
   -- what ends nothing that is led
   brings_none : (a : Answer) → ((d : Led) → item_with s (Some d) a ≡ []) → item_with s raw.led a ≡ []
   brings_none a e = elim raw.led as (λ o. item_with s o a ≡ []) [ None ↦ refl | Some d ↦ e d ]
 
-  still_comes : (a : Answer) → ((d : Led) → item_with s (Some d) a ≡ []) → find (is_with k) down ≡ Some (k, a) → items_with s raw.led rest ≡ items_with s raw.led down
-  still_comes a e f = heard_comes s raw.led k a down f (brings_none a e)
+  still_comes : (a : Answer) → ((d : Led) → item_with s (Some d) a ≡ []) → find (is_with k) down ≡ Some (k, a)
+      → items_with s raw.led rest ≡ items_with s raw.led coming
+  still_comes a e f =
+      more_come s raw.led owed (messages (without_first (is_with k) down))
+      ∙ ap (λ is. items_with s raw.led owed ++ is) (heard_comes s raw.led k a down f (brings_none a e))
+      ∙ sym (more_come s raw.led owed (messages down))
 
   -- the end of what is led is the one answer that is due, and it fits
-  led_hears : (e : LedEnd) (x : Option Exchange) → OneExchange raw x up (messages down) → In (TheAnswer.Led e) (due (messages down)) → asked_server x ≡ Some k → (due (messages down) ≡ TheAnswer.Led e ∷ []) × (fits k x (TheAnswer.Led e) c ≡ true)
+  led_hears : (e : LedEnd) (x : Option Exchange) → OneExchange raw x up coming → In (TheAnswer.Led e) (due coming) → asked_server x ≡ Some k
+      → (due coming ≡ TheAnswer.Led e ∷ []) × (fits k x (TheAnswer.Led e) c ≡ true)
   led_hears e None h i at = absurd (subst (In (TheAnswer.Led e)) h.1 i)
   led_hears e (Some x) (inl h) i at = absurd (subst (In (TheAnswer.Led e)) h.silent i)
-  led_hears e (Some x) (inr h) i at = elim (subst (In (TheAnswer.Led e)) h.told i) as (λ _. (due (messages down) ≡ TheAnswer.Led e ∷ []) × (fits k (Some x) (TheAnswer.Led e) c ≡ true)) [
-    | inl same ↦
-        let server : server_of_question x ≡ k = cc in
-        (h.told ∙ ap (λ b. b ∷ []) (sym same), by x (subst (λ n. answer_fits n x (TheAnswer.Led e) raw ≡ true) server (subst (λ b. answer_fits (server_of_question x) x b raw ≡ true) (sym same) h.fits)))
-    | inr z ↦ absurd z
-  ]
+  led_hears e (Some x) (inr h) i at =
+      elim (subst (In (TheAnswer.Led e)) h.told i)
+      as (λ _. (due coming ≡ TheAnswer.Led e ∷ []) × (fits k (Some x) (TheAnswer.Led e) c ≡ true)) [
+        | inl same ↦
+            let server : server_of_question x ≡ k = cc in (
+              h.told ∙ ap (λ b. b ∷ []) (sym same),
+              by x (subst (λ n. answer_fits n x (TheAnswer.Led e) raw ≡ true) server
+                  (subst (λ b. answer_fits (server_of_question x) x b raw ≡ true) (sym same) h.fits)),
+            )
+        | inr z ↦ absurd z
+      ]
     where
       by : (x : Exchange) → answer_fits k x (TheAnswer.Led e) raw ≡ true → fits k (Some x) (TheAnswer.Led e) c ≡ true
       by (exchange.Leads to) f = f
@@ -172,13 +192,20 @@ module _ (s : Session) (k : ℕ) (raw : ClientState) (now : ℕ) (up : List Clie
       by (exchange.Releases to numbers) f = absurd (cc)
       by (exchange.Ships to count) f = absurd (cc)
 
-  ended_tells : (d : Led) → raw.led ≡ Some d → (e : LedEnd) → due (messages down) ≡ TheAnswer.Led e ∷ [] → Hears (ended_plan d e c)
-  ended_tells d is (end.Done r) due_is = tells_done refl (led_item s d r) (record { session = s; n = d.entry.n; asked = d.entry.op; reply = r }) (ap (λ o. items_with s o down) is ∙ one_comes s d down (TheAnswer.Led (end.Done r)) due_is) refl
+  ended_tells : (d : Led) → raw.led ≡ Some d → (e : LedEnd) → due coming ≡ TheAnswer.Led e ∷ [] → Hears (ended_plan d e c)
+  ended_tells d is (end.Done r) due_is = tells_done refl (led_item s d r)
+      (record { session = s; n = d.entry.n; asked = d.entry.op; reply = r })
+      (ap (λ o. items_with s o coming) is ∙ one_comes s d coming (TheAnswer.Led (end.Done r)) due_is) refl
       (ap (λ o. ended_in s o (note.Client (client_note.Led d.entry.n r) ∷ [])) (asked d is)) refl (record { by = refl; n = refl }) (record { op = same_op d.entry.op; reply = refl }) refl
-  ended_tells d is (end.Ended lease until at) due_is = tells_freed refl (ap (λ o. items_with s o down) is ∙ one_comes s d down (TheAnswer.Led (end.Ended lease until at)) due_is) refl (quiet_note s (leads s) _ refl) refl
-  ended_tells d is (end.Again why) due_is = tells_freed refl (ap (λ o. items_with s o down) is ∙ one_comes s d down (TheAnswer.Led (end.Again why)) due_is) refl (quiet_note s (leads s) _ refl) refl
+  ended_tells d is (end.Ended lease until at) due_is = tells_freed refl
+      (ap (λ o. items_with s o coming) is ∙ one_comes s d coming (TheAnswer.Led (end.Ended lease until at)) due_is) refl
+      (quiet_note s (leads s) _ refl) refl
+  ended_tells d is (end.Again why) due_is = tells_freed refl
+      (ap (λ o. items_with s o coming) is ∙ one_comes s d coming (TheAnswer.Led (end.Again why)) due_is) refl
+      (quiet_note s (leads s) _ refl) refl
 
-  led_tells : (led : Option Led) → raw.led ≡ led → (e : LedEnd) → end_fits led e ≡ true → due (messages down) ≡ TheAnswer.Led e ∷ [] → Hears (led_plan led e c)
+  led_tells : (led : Option Led) → raw.led ≡ led → (e : LedEnd) → end_fits led e ≡ true
+      → due coming ≡ TheAnswer.Led e ∷ [] → Hears (led_plan led e c)
   led_tells None is e f due_is = absurd (cc)
   led_tells (Some d) is e f due_is = ended_tells d is e due_is
 
@@ -190,12 +217,14 @@ module _ (s : Session) (k : ℕ) (raw : ClientState) (now : ℕ) (up : List Clie
   hear_tells (TheAnswer.Recall number) f at = elim (fits k c.exchange (TheAnswer.Recall number) c) as (λ b. Hears (cond b (told (TheAnswer.Recall number) c) (strange c))) [ true ↦ tells_none refl (still_comes _ (λ d. refl) f) refl (quiet_note s (leads s) _ refl) refl | false ↦ tells_none refl (still_comes _ (λ d. refl) f) refl (quiet_note s (leads s) _ refl) refl ]
   hear_tells (TheAnswer.Led e) f at =
       let there : In (TheAnswer.Led e) (messages down) = In-mapped (λ (m : ℕ × Answer). m.1) (k, TheAnswer.Led e) down (found (is_with k) down (k, TheAnswer.Led e) f).0 in
-      let q = led_hears e raw.exchange one (In-kept (λ (b : Answer). not (is_recall b)) (TheAnswer.Led e) (messages down) there refl) (at refl) in
+      let q = led_hears e raw.exchange one
+      (In-kept (λ (b : Answer). not (is_recall b)) (TheAnswer.Led e) coming
+      (In-behind (TheAnswer.Led e) owed (messages down) there) refl) (at refl) in
       subst (λ b. Hears (cond b (told (TheAnswer.Led e) c) (strange c))) (sym q.1) (led_tells raw.led refl e (led_end_fits k c.exchange e c q.1) q.0)
 
 -- ## Turns
 
-module _ (s : Session) (raw : ClientState) (now : ℕ) (down : List (ℕ × Answer)) (leads : Leads) where
+module _ (s : Session) (raw : ClientState) (now : ℕ) (down : List Answer) (leads : Leads) where
   abbrev began : ClientState
   began = begun now raw
 

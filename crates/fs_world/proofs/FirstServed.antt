@@ -1,5 +1,5 @@
 -- What holds holds of the first world of the servers form.
-use Rattle.std.proofs.Common.{◌≡◌, ℕ, zero, suc, ◌≤◌, [], ◌∷◌, inl, inr, ◌⊎◌, refl, ap, sym, subst}
+use Rattle.std.proofs.Common.{◌≡◌, ℕ, zero, suc, ◌≤◌, [], ◌∷◌, ◌++◌, inl, inr, ◌⊎◌, ap, sym, subst}
 use Rattle.std.specs.Prelude.{None}
 use Rattle.std.specs.FinMap.{empty, get-empty}
 use Rattle.std.specs.Ordering.{nat_cmp}
@@ -10,10 +10,12 @@ use Rattle.fs_ident.proofs.Standing.{In-append}
 use Rattle.fs_server.specs.Server.{first_server}
 use Rattle.fs_server.specs.declared.state.Server.{Server}
 use Rattle.fs_serial.specs.Cluster.{Lines, first_lines, first_servers}
+use Rattle.fs_serial.specs.Owed.{ends_with, owed_to}
 use Rattle.fs_world.specs.Order.{first_tale}
 use Rattle.fs_world.specs.Parts.{lines_in, lines_of}
 use Rattle.fs_world.specs.Served.{first_served}
 use Rattle.fs_world.proofs.SerialLaws.{EventLaws}
+use Rattle.fs_world.proofs.Coming.{none_comes}
 use Rattle.fs_world.proofs.RepliesGiven.{IsTelling}
 use Rattle.fs_world.proofs.SessionSteps.{HoldsOf}
 use Rattle.fs_world.proofs.StayingServers.{first_count}
@@ -38,6 +40,11 @@ first_holds laws servers skew term some = record {
   many = first_count servers skew term;
   rows = λ s i row j. absurd (subst (In row) (no_rows servers skew term s i) j);
   parcels = λ f i. absurd i;
-  answered = λ x. subst (λ (l : Lines). IsTelling x l [] [] None) (ap (λ (f : Session → Lines). f x) (first_seen term)) (record { told = record { front = []; split = refl; told = tt }; asked = λ d e. absurd (cc) });
+  answered = λ x.
+      let all = first_servers servers skew term in
+      subst (λ (l : Lines). IsTelling x (ends_with x all l) [] [] None) (ap (λ (f : Session → Lines). f x) (first_seen term)) (record {
+        told = record { front = []; split = sym (none_comes x (owed_to x all ++ [])); told = tt };
+        asked = λ d e. absurd (cc);
+      });
   items = tt;
 }

@@ -34,7 +34,7 @@ use Rattle.fs_schedule.specs.declared.event.Head.TheVariants.{Servers}
 use Rattle.fs_schedule.specs.declared.event.What.{What}
 use Rattle.fs_schedule.specs.declared.event.What.TheVariants.{Join, Do, Tell, Turn, Recall, Move}
 use Rattle.fs_serial.specs.Cluster.{Cluster, IsThere, Lines, after_step, is_with, parcels_of, without_first}
-use Rattle.fs_serial.specs.Seen.{ends_of}
+use Rattle.fs_serial.specs.Owed.{ends_with, taken_leads}
 use Rattle.fs_serial.proofs.Lists.SetAt.{get_here, set_same}
 use Rattle.fs_serial.specs.Refusals.{rows_in}
 use Rattle.fs_serial.specs.Joined.{rows_of_all}
@@ -52,14 +52,14 @@ use Rattle.fs_world.specs.declared.servers.world.Served.{Served}
 use Rattle.fs_world.proofs.HeardEach.{AreNext as AreAnswersNext, answers_in, heard_is as answers_heard, heard_notes as answers_noted, notes_all, session_after}
 use Rattle.fs_world.proofs.LinkedStates.{got_here}
 use Rattle.fs_world.proofs.Right.{Answers, IsRight, TakesEvent, event_right, plain_client, turn_right}
-use Rattle.fs_world.proofs.SerialLaws.{AsksOne, SerialLaws, all_exchanges, timed}
+use Rattle.fs_world.proofs.SerialLaws.{SerialLaws, timed}
 use Rattle.fs_world.proofs.ServedEach.{few_up, later_next, no_second, one_holds, parts_at}
 use Rattle.fs_world.proofs.ServedHolds.{Holds, Parts, cluster_of}
 use Rattle.fs_world.proofs.ServedSteps.{to_there}
 use Rattle.fs_world.proofs.ServerEach.{heard_is, heard_notes, server_notes, taking, taking_all}
 use Rattle.fs_world.proofs.ServerHolds.{clock, flying_there, question_there}
 use Rattle.fs_world.proofs.ServerNext.{AreNext, events_in, flying_alike}
-use Rattle.fs_world.proofs.SessionSteps.{HoldsOf, heard_next, parts_of}
+use Rattle.fs_world.proofs.SessionSteps.{HoldsOf, heard_next, one_asked, parts_of}
 
 -- what the event notes is right
 abbrev pub AllRight : Answers → List Note → Type 0
@@ -190,9 +190,9 @@ module _ (laws : SerialLaws) (count skew greatest : ℕ) (tale : Tale) (w : Serv
             let r = next.1.0 in
             let left : SessionState = record q.state { up = without_first (is_with k) q.state.up } in
             let same : left ≡ r.state = some_is left r.state (sym (ap (λ (o : Option SessionState). get (without_up k o s.0 w.sessions) s.0) q.there ∙ got_here w.sessions s left) ∙ r.there) in
-            let own : lines_of w.term w.sessions s ≡ lines_in w.term s (Some q.state) = ap (lines_in w.term s) q.there in
-            let asks : AsksOne (lines_in w.term s (Some q.state)) = subst AsksOne own (all_exchanges skew greatest c seen s (In-got w.servers k c at) h.cluster) in
-            let few = few_up q.state.client q.state.client.exchange q.state.up (ends_of (lines_in w.term s (Some q.state))).down asks.one in
+            let one = one_asked (timed laws) count skew greatest tale w h now within some s q.state q.there in
+            let ends = ends_with s w.servers (lines_in w.term s (Some q.state)) in
+            let few = few_up ends.client ends.client.exchange q.state.up (taken_leads s ends.client.led w.servers) ends.down one in
             absurd (no_second (is_with k) q.state.up q.asked r.asked few q.first
             (ap (λ (z : SessionState). find (is_with k) z.up) same ∙ r.first))
 

@@ -11,18 +11,21 @@ use Rattle.fs_ident.proofs.Same.{itself}
 use Rattle.fs_model.specs.Namespace.{first_space}
 use Rattle.fs_msg.specs.Journal.{IsSerialRun}
 use Rattle.fs_msg.specs.declared.item.Item.{Item}
-use Rattle.fs_record.specs.Records.{nodes_of}
 use Rattle.fs_server.specs.Ships.{item_of}
 use Rattle.fs_server.specs.declared.state.Server.{Server as Core}
-use Rattle.fs_serial.specs.Cluster.{Cluster, parcels_of}
-use Rattle.fs_serial.specs.Joined.{records_of_all}
+use Rattle.fs_serial.specs.Cluster.{Cluster}
 use Rattle.fs_serial.specs.Numbers.{AreNumbered, all_items, is_server, is_session, items_at, items_by}
-use Rattle.fs_serial.specs.Seen.{ClusterHolds, ends_of, world_of}
+use Rattle.fs_serial.specs.Owed.{ends_in}
+use Rattle.fs_serial.specs.Serial.{JournalSerial}
+use Rattle.fs_serial.specs.Seen.{ClusterHolds, world_of}
 use Rattle.fs_serial.specs.Settled.{Settled}
 use Rattle.fs_serial.specs.World.{WorldHolds, settled_at}
+use Rattle.fs_serial.proofs.DecidedEffects.HeldSeen.{held_same}
 use Rattle.fs_world.specs.Coming.{IsTold}
 use Rattle.fs_world.specs.Order.{Agrees, AreNumberedFrom, HasNumberOf, IsInSessionOrder, Tale, ReplyGiven, items_of, same_actor, told_to}
-use Rattle.fs_world.specs.Parts.{ServedHold, lines_of, replied_in, seen as seen_by}
+use Rattle.fs_world.specs.Parts.{ServedHold, replied_in, seen as seen_by}
+use Rattle.fs_world.specs.World.{space_of}
+use Rattle.fs_world.specs.declared.form.Form.TheVariants.{Served as ServedForm}
 use Rattle.fs_world.specs.declared.servers.world.Served.{Served}
 use Rattle.fs_world.proofs.Fine.{AllFine}
 use Rattle.fs_world.proofs.Numbered.{kept, number_of_one}
@@ -75,10 +78,10 @@ module _ (laws : SerialLaws) (count skew greatest : ℕ) (tale : Tale) (w : Serv
   server = a_server w.servers (subst (λ (n : ℕ). 1 ≤ n) (sym h.many) some)
 
   holds : WorldHolds greatest (world_of server.0 seen)
-  holds = let all : ClusterHolds skew greatest seen = h.cluster in all.parts server.0 server.1
+  holds = let all : ClusterHolds skew greatest seen = h.cluster in (all.parts server.0 server.1).0
 
   abbrev settled : Session → Settled
-  settled s = settled_at s (ends_of (lines_of w.term w.sessions s))
+  settled s = settled_at s (ends_in seen s)
 
   -- the session's items, and behind them what is in its log
   told_numbered : (s : Session) → AreNumberedFrom 1 (all_items s w.journal (settled s).log)
@@ -97,12 +100,12 @@ module _ (laws : SerialLaws) (count skew greatest : ℕ) (tale : Tale) (w : Serv
   agreeing : (t : ReplyGiven) (i : Item) → In t tale.told → In i w.journal → HasNumberOf i t → Agrees i t
   agreeing t i m there has =
       let s = t.session in
-      let found = among_replies (lines_of w.term w.sessions) h.replied tale h.answered t m in
+      let found = among_replies (ends_in seen) h.replied tale h.answered t m in
       let same : i ≡ found.0 = number_of_one 1 (h.replied s) i found.0 (subst (AreNumberedFrom 1) (holds.all.sessions s).replies (told_numbered s)) (in_told s i there has.by) found.1 (has.n ∙ sym found.2.n) in
       subst (λ (x : Item). Agrees x t) (sym same) found.3
 
-  pub served_serial : IsSerialRun first_space w.journal (nodes_of (records_of_all w.servers (parcels_of w.in_flight)))
-  served_serial = holds.all.servers.serial
+  pub served_serial : IsSerialRun first_space w.journal (space_of (ServedForm w))
+  served_serial = subst (JournalSerial w.journal) (sym (held_same seen h.cluster.led)) holds.all.servers.serial
 
   pub served_ordered : IsInSessionOrder w.journal tale.told
   served_ordered = record { numbered = numbered; agreeing = agreeing }
@@ -117,5 +120,7 @@ module _ (laws : SerialLaws) (count skew greatest : ℕ) (tale : Tale) (w : Serv
   pub served_parts : ServedHold skew greatest tale.told w
   served_parts = record {
     parts = subst (λ (replied : Session → List Item). ClusterHolds skew greatest (seen_by replied w)) replied_is h.cluster;
-    replies = λ x. subst (λ (is : List Item). IsTold x (lines_of w.term w.sessions x) is (told_to x tale.told)) (sym (holds.all.sessions x).replies) (h.answered x).told;
+    replies = λ x.
+        subst (λ (is : List Item). IsTold x (ends_in seen x) is (told_to x tale.told))
+        (sym (holds.all.sessions x).replies) (h.answered x).told;
   }

@@ -83,12 +83,12 @@ one_of f [] more y e = omega arith
 one_of f (x ∷ []) more y e = omega arith
 one_of f (x ∷ z ∷ xs) more y e = absurd (cc)
 
--- what its leader has taken counts too
-pub few_up : (c : ClientCore) (o : Option Exchange) (up : List (ℕ × ClientMsg)) (taken : List ClientMsg) (down : List Answer)
-    → OneExchange c o (map (λ (m : ℕ × ClientMsg). m.1) up ++ taken) down → length up ≤ 1
-few_up c None up taken down h = none_of (λ (m : ℕ × ClientMsg). m.1) up taken h.0
-few_up c (Some x) up taken down (inl a) = one_of (λ (m : ℕ × ClientMsg). m.1) up taken a.message a.asked
-few_up c (Some x) up taken down (inr a) = none_of (λ (m : ℕ × ClientMsg). m.1) up taken a.asked
+-- or taken
+pub few_up : (c : ClientCore) (o : Option Exchange) (up : List (ℕ × ClientMsg)) (more : List ClientMsg) (down : List Answer)
+    → OneExchange c o (map (λ (m : ℕ × ClientMsg). m.1) up ++ more) down → length up ≤ 1
+few_up c None up more down h = none_of (λ (m : ℕ × ClientMsg). m.1) up more h.0
+few_up c (Some x) up more down (inl a) = one_of (λ (m : ℕ × ClientMsg). m.1) up more a.message a.asked
+few_up c (Some x) up more down (inr a) = none_of (λ (m : ℕ × ClientMsg). m.1) up more a.asked
 
 none_found : {X : Type 0} (o : Option X) (x : X) → o ≡ None → o ≡ Some x → ⊥
 none_found o x e f = absurd (cc)

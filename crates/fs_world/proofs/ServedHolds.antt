@@ -1,17 +1,21 @@
 -- What holds of a world of the servers form between events, and what a client's event makes of it.
-use Rattle.std.proofs.Common.{◌≡◌, ℕ, ◌≤◌, max, List, [], ◌∷◌, ◌++◌, length, inl, refl, ap, sym, ◌∙◌, subst, arith}
+use Rattle.std.proofs.Common.{◌≡◌, ℕ, ◌≤◌, ◌==◌, max, Bool, true, false, cond, List, [], ◌∷◌, ◌++◌, length, inl, refl, ap, sym, ◌∙◌, subst, arith}
 use Rattle.std.proofs.lemmas.List.{append-nil}
 use Rattle.std.specs.Prelude.{Option, Some, None}
 use Rattle.std.specs.FinMap.{get, insert}
+use mathlib.Core.Path.{fun_ext}
 use Rattle.fs_ident.specs.In.{In}
 use Rattle.fs_ident.specs.declared.actor.Session.{Session}
+use Rattle.fs_ident.proofs.Same.{one_session}
 use Rattle.fs_msg.specs.declared.answer.Answer.{Answer}
 use Rattle.fs_msg.specs.declared.item.Item.{Item}
 use Rattle.fs_client.specs.Client.{committed}
 use Rattle.fs_client.specs.declared.plan.Plan.{Plan}
 use Rattle.fs_server.specs.declared.state.Server.{Server}
 use Rattle.fs_serial.specs.Cluster.{CanCome, ClientEvent, Cluster, Lines, after_client, after_plan, with_lines}
-use Rattle.fs_serial.specs.World.{pushed, told_by, with_told}
+use Rattle.fs_serial.specs.Owed.{ends_in, ends_with, owed_to}
+use Rattle.fs_serial.specs.World.{Ends, pushed, told_by, with_ends, with_told}
+use Rattle.fs_serial.proofs.Lists.Traffic.{messages}
 use Rattle.fs_serial.specs.declared.in_flight.InFlight.{InFlight}
 use Rattle.fs_world.specs.Linked.{AreOfJoined, HasJoined}
 use Rattle.fs_world.specs.Order.{Leads, Tale, ReplyGiven}
@@ -45,6 +49,16 @@ pub record Holds (laws : EventLaws) (count skew greatest : ℕ) (tale : Tale) (p
   pub parcels : (f : InFlight) → In f p.in_flight → BringsOf (HasJoined p.sessions) f.message
   pub answered : AllTelling (ends_in (cluster_of replied p)) replied tale
   pub items : AllFine p.journal
+
+-- the ends of a session are those of its lines
+ends_one : (servers : List Server) (s x : Session) (n : Lines) (lines : Session → Lines) (b : Bool) → (s.0 == x.0) ≡ b
+    → ends_with x servers (cond b n (lines x)) ≡ cond b (ends_with s servers n) (ends_with x servers (lines x))
+ends_one servers s x n lines true e = ap (λ (y : Session). ends_with y servers n) (sym (one_session s x e))
+ends_one servers s x n lines false e = refl
+
+pub ends_put : (servers : List Server) (s : Session) (n : Lines) (lines : Session → Lines)
+    → (λ x. ends_with x servers (with_lines s n lines x)) ≡ with_ends s (ends_with s servers n) (λ x. ends_with x servers (lines x))
+ends_put servers s n lines = fun_ext (λ x. ends_one servers s x n lines (s.0 == x.0) refl)
 
 -- there is a server
 pub a_server : (servers : List Server) → 1 ≤ length servers → (s : Server) × In s servers
@@ -81,7 +95,7 @@ module _ (laws : EventLaws) (count skew greatest : ℕ) (tale : Tale) (p : Parts
     many = h.many;
     rows = λ s i row j. stay row.session (h.rows s i row j);
     parcels = λ f i. brings_still (HasJoined p.sessions) (HasJoined sessions) stay f.message (h.parcels f i);
-    answered = subst (λ (lines : Session → Lines). AllTelling lines h.replied tale) (sym same) h.answered;
+    answered = subst (λ (lines : Session → Lines). AllTelling (λ x. ends_with x p.servers (lines x)) h.replied tale) (sym same) h.answered;
     items = h.items;
   }
 
@@ -98,6 +112,14 @@ module _ (laws : EventLaws) (count skew greatest : ℕ) (tale : Tale) (p : Parts
 
     pub own : lines_of p.term p.sessions s ≡ lines_in p.term s (Some state)
     own = ap (lines_in p.term s) at
+
+    -- what is owed stands in front of what is on its way
+    abbrev pub coming : List (ℕ × Answer) → List Answer
+    coming down = owed_to s p.servers ++ messages down
+
+    -- the session's ends where this is its state
+    abbrev ends_for : SessionState → Ends
+    ends_for next = ends_with s p.servers (lines_in p.term s (Some next))
 
     -- the session's lines after a plan
     abbrev pub planned : {N : Type 0} → List (ℕ × Answer) → Plan N → Lines
@@ -121,7 +143,9 @@ module _ (laws : EventLaws) (count skew greatest : ℕ) (tale : Tale) (p : Parts
 
       pub client_holds : {N : Type 0} (event : ClientEvent) (rest : List (ℕ × Answer)) (plan : Plan N) (next : SessionState) (new : List ReplyGiven) (leads : Leads) → after_client s now event (cluster_of h.replied p) ≡ after_plan s rest plan (cluster_of h.replied p)
           → CanCome s event (cluster_of h.replied p) → lines_in p.term s (Some next) ≡ planned rest plan
-          → MayBeFine plan.out.admitted → TellsOf s state.client.led (led_after plan.ready.change state.client.led) state.down rest (told_by s plan.ready.change plan.out.admitted) new tale.leads leads
+          → MayBeFine plan.out.admitted
+          → TellsOf s state.client.led (led_after plan.ready.change state.client.led) (coming state.down) (coming rest)
+          (told_by s plan.ready.change plan.out.admitted) new tale.leads leads
           → Holds laws count skew (max greatest now) (record { told = tale.told ++ new; leads = leads }) (with_plan next plan.out.admitted)
       client_holds event rest plan next new leads does can e fine tells = record {
         replied = with_told s (told_by s plan.ready.change plan.out.admitted) h.replied;
@@ -130,18 +154,32 @@ module _ (laws : EventLaws) (count skew greatest : ℕ) (tale : Tale) (p : Parts
         many = h.many;
         rows = λ x i row j. joined_still p.sessions s row.session next (h.rows x i row j);
         parcels = λ f i. brings_still (HasJoined p.sessions) (HasJoined (insert p.sessions s.0 next)) (λ x y. joined_still p.sessions s x next y) f.message (h.parcels f i);
-        answered = subst (λ (lines : Session → Lines). AllTelling lines (with_told s o h.replied) (record { told = tale.told ++ new; leads = leads })) (sym (lines_put p.term p.sessions s next))
-            (told_more s (lines_in p.term s (Some next)) (lines_of p.term p.sessions) h.replied tale o new leads h.answered there);
+        answered =
+            subst (λ (ends : Session → Ends). AllTelling ends (with_told s o h.replied) (record { told = tale.told ++ new; leads = leads }))
+            (sym ends_then)
+            (told_more s (ends_for next) (ends_in (cluster_of h.replied p)) h.replied tale o new leads h.answered there);
         items = fine_pushed plan.out.admitted p.journal fine h.items;
       }
         where
           o : Option Item
           o = told_by s plan.ready.change plan.out.admitted
 
-          then : TellsOf s state.client.led (lines_in p.term s (Some next)).client.led state.down (lines_in p.term s (Some next)).down o new tale.leads leads
-          then = subst (λ (n : Lines). TellsOf s state.client.led n.client.led state.down n.down o new tale.leads leads) (sym e)
-              (subst (λ d. TellsOf s state.client.led d state.down rest o new tale.leads leads)
+          ends_then : ends_in (cluster_of (with_told s o h.replied) (with_plan next plan.out.admitted))
+              ≡ with_ends s (ends_for next) (ends_in (cluster_of h.replied p))
+          ends_then =
+              ap (λ (lines : Session → Lines). λ (x : Session). ends_with x p.servers (lines x)) (lines_put p.term p.sessions s next)
+              ∙ ends_put p.servers s (lines_in p.term s (Some next)) (lines_of p.term p.sessions)
+
+          then : TellsOf s state.client.led (ends_for next).client.led (coming state.down) (ends_for next).down o new tale.leads leads
+          then =
+              subst (λ (n : Lines). TellsOf s state.client.led n.client.led (coming state.down) (coming n.down) o new tale.leads leads)
+              (sym e)
+              (subst (λ d. TellsOf s state.client.led d (coming state.down) (coming rest) o new tale.leads leads)
               (sym (led_then plan.ready state.client)) tells)
 
-          there : TellsOf s (lines_of p.term p.sessions s).client.led (lines_in p.term s (Some next)).client.led (lines_of p.term p.sessions s).down (lines_in p.term s (Some next)).down o new tale.leads leads
-          there = subst (λ (l : Lines). TellsOf s l.client.led (lines_in p.term s (Some next)).client.led l.down (lines_in p.term s (Some next)).down o new tale.leads leads) (sym own) then
+          there : TellsOf s (lines_of p.term p.sessions s).client.led (ends_for next).client.led
+              (coming (lines_of p.term p.sessions s).down) (ends_for next).down o new tale.leads leads
+          there =
+              subst (λ (l : Lines).
+              TellsOf s l.client.led (ends_for next).client.led (coming l.down) (ends_for next).down o new tale.leads leads)
+              (sym own) then

@@ -38,7 +38,7 @@ use Rattle.fs_world.proofs.ServedHolds.{Holds, cluster_of}
 use Rattle.fs_world.proofs.ServerEach.{heard_is, taking_all}
 use Rattle.fs_world.proofs.ServerHolds.{after_core, server_holds}
 use Rattle.fs_world.proofs.ServerNext.{events_in, flying_alike, sessions_alike}
-use Rattle.fs_world.proofs.RepliesGiven.{quiet_note}
+use Rattle.fs_world.proofs.ClientTelling.{quiet_note}
 use Rattle.fs_world.proofs.SessionSteps.{HoldsOf, Then, do_holds, join_holds, parts_of, still, told_holds, turn_holds, untold}
 
 -- what the test says

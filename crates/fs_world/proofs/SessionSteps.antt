@@ -21,15 +21,18 @@ use Rattle.fs_client.specs.Acts.{act_plan}
 use Rattle.fs_client.specs.Answers.{answer_plan}
 use Rattle.fs_client.specs.Client.{committed}
 use Rattle.fs_client.specs.Turns.{turn_plan}
+use Rattle.fs_client.specs.declared.led.Led.{Led}
 use Rattle.fs_client.specs.declared.plan.Plan.{Plan}
 use Rattle.fs_client.specs.declared.state.Client.{Client as ClientCore}
 use Rattle.fs_serial.specs.Cluster.{Cluster, Lines, after_plan, is_with, without_first}
 use Rattle.fs_serial.specs.Cluster.ClientEvent.{Does, Hears, Turns}
-use Rattle.fs_serial.specs.World.{is_called, pushed}
+use Rattle.fs_serial.specs.Exchange.{OneExchange}
+use Rattle.fs_serial.specs.Owed.{ends_with, owed_to}
+use Rattle.fs_serial.specs.Seen.{IsAddressed}
+use Rattle.fs_serial.specs.World.{Ends, is_called, pushed}
 use Rattle.fs_serial.proofs.ClientMessages.SessionStates.{idle_due}
-use Rattle.fs_serial.proofs.Lists.Traffic.{messages}
 use Rattle.fs_world.specs.Carried.{AreFirstOf, downs_of, joined_at, state_post}
-use Rattle.fs_world.specs.Order.{Leads, Tale, ReplyGiven, ended_in, leads_in, replies_in, reply_given, told_at as told_in, told_to, told_with}
+use Rattle.fs_world.specs.Order.{Leads, Tale, ReplyGiven, ended_in, leads_in, replies_in, reply_given, told_at as told_in, told_with}
 use Rattle.fs_world.specs.Parts.{lines_in, lines_of}
 use Rattle.fs_world.specs.Served.{SessionStepped, SessionStates, client_acts, client_turns, do_at, join_at, client_receive_packet_at, turn_at, up_after, with_read, with_session}
 use Rattle.fs_world.specs.declared.servers.session_state.SessionState.{SessionState}
@@ -40,7 +43,7 @@ use Rattle.fs_world.proofs.LinkedStates.{got_here, put_again}
 use Rattle.fs_world.proofs.NamedClients.{answer_admits, answer_silent}
 use Rattle.fs_world.proofs.SerialLaws.{AsksOne, EventLaws}
 use Rattle.fs_world.proofs.ServedHolds.{Holds, Parts, a_server, client_holds, cluster_of, holds_joined, holds_later, holds_posted, holds_untold, untold as all_untold, with_sessions}
-use Rattle.fs_world.proofs.RepliesGiven.{IsTelling, act_tells, hear_tells, quiet_note, turn_tells}
+use Rattle.fs_world.proofs.ClientTelling.{act_tells, hear_tells, quiet_note, turn_tells}
 
 abbrev pub parts_of : Served → Parts
 parts_of w = record { term = w.term; servers = w.servers; sessions = w.sessions; in_flight = w.in_flight; journal = w.journal }
@@ -111,13 +114,23 @@ module _ (laws : EventLaws) (count skew greatest : ℕ) (tale : Tale) (w : Serve
     journal_is o new leads next k = subst (λ journal. Holds laws count skew (max greatest now) (record { told = tale.told ++ new; leads = leads }) (parts_with next journal)) (read_pushed o w.journal) k
 
     -- it asks one question at a time
-    one : AsksOne sits
-    one =
+    asks : AsksOne seen s
+    asks =
         let server = a_server w.servers (subst (λ (n : ℕ). 1 ≤ n) (sym h.many) some) in
-        subst AsksOne own (laws.exchanges skew greatest server.0 seen s server.1 h.cluster)
+        laws.exchanges skew greatest server.0 seen s server.1 h.cluster
 
-    telling : IsTelling s sits (h.replied s) (told_to s tale.told) (tale.leads s)
-    telling = subst (λ (n : Lines). IsTelling s n (h.replied s) (told_to s tale.told) (tale.leads s)) own (h.answered s)
+    abbrev pub ends_here : Ends
+    ends_here = ends_with s w.servers sits
+
+    pub one_asked : OneExchange state.client state.client.exchange ends_here.up ends_here.down
+    one_asked =
+        subst (λ (n : Lines). let e : Ends = ends_with s w.servers n in OneExchange e.client e.client.exchange e.up e.down) own asks.one
+
+    asked : (d : Led) → state.client.led ≡ Some d → tale.leads s ≡ Some d.entry.op
+    asked = subst (λ (n : Lines). (d : Led) → n.client.led ≡ Some d → tale.leads s ≡ Some d.entry.op) own (h.answered s).asked
+
+    addressed : IsAddressed sits
+    addressed = subst IsAddressed own asks.addressed
 
     acts : (o : Op) → is_called o ≡ true → Then (replies_in s o (note.Act (act_plan state.client now o).out.note ∷ [])) (leads_in s o (note.Act (act_plan state.client now o).out.note ∷ []) tale.leads) (with_session s (client_acts now s o state w.journal w.packets) w).world
     acts o called =
@@ -130,7 +143,8 @@ module _ (laws : EventLaws) (count skew greatest : ℕ) (tale : Tale) (w : Serve
         called
         (as_planned p next state.down refl)
         (act_fine state.client now o called)
-        (act_tells s o state.client now owned state.down (λ e. (idle_due state.client state.client.exchange (messages state.up) (messages state.down) e one.one).1) tale.leads))
+        (act_tells s o state.client now owned ends_here.down
+        (λ e. (idle_due state.client state.client.exchange ends_here.up ends_here.down e one_asked).1) tale.leads))
 
     turns : Then [] tale.leads (with_session s (client_turns now s state w.journal w.packets) w).world
     turns =
@@ -141,7 +155,7 @@ module _ (laws : EventLaws) (count skew greatest : ℕ) (tale : Tale) (w : Serve
         tt
         (as_planned p next state.down refl)
         (turn_fine state.client now)
-        (turn_tells s state.client now state.down tale.leads))
+        (turn_tells s state.client now ends_here.down tale.leads))
 
     -- ## Its client hears an answer
 
@@ -159,8 +173,8 @@ module _ (laws : EventLaws) (count skew greatest : ℕ) (tale : Tale) (w : Serve
         (ap (λ (n : Lines). find (is_with k) n.down) own ∙ first)
         (ap (λ (m : Option (ℕ × ClientMsg)). lines_after p (pushed m state.up) rest) (sym (answer_silent state.client now k a)))
         (answer_fine state.client now k a)
-        (hear_tells s k state.client now (messages state.up) state.down one.one tale.leads telling.asked a first
-        (λ e. one.addressed.down (k, a) (found (is_with k) state.down (k, a) first).0 e)))
+        (hear_tells s k state.client now ends_here.up (owed_to s w.servers) state.down one_asked tale.leads asked a first
+        (λ e. addressed.down (k, a) (found (is_with k) state.down (k, a) first).0 e)))
 
   -- ## Each event at a session
 
