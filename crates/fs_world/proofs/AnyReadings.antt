@@ -20,7 +20,7 @@ use Rattle.fs_world.specs.declared.form.Form.{Form}
 use Rattle.fs_world.specs.declared.form.Form.TheVariants.{Direct, Served}
 use Rattle.fs_world.specs.declared.servers.world.Served.{Served as TheServed}
 use Rattle.fs_world.proofs.FirstServed.{first_holds}
-use Rattle.fs_world.proofs.SerialLaws.{EventLaws, all_asks, all_clock, all_exchanges, all_owned}
+use Rattle.fs_world.proofs.SerialLaws.{EventLaws, all_asks, all_clock, all_exchanges, all_leads, all_owned}
 use Rattle.fs_world.proofs.ServedHolds.{cluster_of}
 use Rattle.fs_world.proofs.ServedSteps.{step_holds}
 use Rattle.fs_world.proofs.SessionSteps.{HoldsOf, parts_of}
@@ -51,6 +51,7 @@ anyhow_laws = record {
     few = l.few;
     told = l.told;
   };
+  leads = λ skew greatest s c i h. all_leads skew greatest s (told_as h.journal h.replied c) i h.holds;
 }
 
 -- while these events are to come
