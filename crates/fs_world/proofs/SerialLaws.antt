@@ -19,7 +19,7 @@ use Rattle.fs_server.specs.Step.{step}
 use Rattle.fs_server.specs.declared.event.ServerEvent.{ServerEvent}
 use Rattle.fs_server.specs.declared.event.ServerEvent.TheVariants.{FromClient}
 use Rattle.fs_server.specs.declared.state.Server.{Server}
-use Rattle.fs_serial.specs.Cluster.{CanCome, ClientEvent, Cluster, IsThere, Lines, after_client, after_server, first_cluster}
+use Rattle.fs_serial.specs.Cluster.{CanCome, ClientEvent, Cluster, IsThere, after_client, after_server, first_cluster}
 use Rattle.fs_serial.specs.Cluster.ClientEvent.{Hears}
 use Rattle.fs_serial.specs.Exchange.{LeadsTold, OneExchange}
 use Rattle.fs_serial.specs.Refusals.{IsFairStep}
@@ -71,7 +71,8 @@ pub record EventLaws : Type 1 where
   -- what servers lead is of sessions that wait for it
   pub led : (skew greatest : ℕ) (c : Cluster) → Holds skew greatest c → LedHolds c
   -- and that is deletes and renames
-  pub leads : (skew greatest : ℕ) (s : Server) (c : Cluster) → In s c.servers → Holds skew greatest c → (l : Leading) → In l s.leading → is_led l.leader.op ≡ true
+  pub leads : (skew greatest : ℕ) (s : Server) (c : Cluster) → In s c.servers → Holds skew greatest c → (l : Leading) → In l s.leading
+      → is_led l.leader.op ≡ true
 
 -- of all parts
 pub all_clock : (skew greatest : ℕ) (s : Server) (c : Cluster) → In s c.servers → ClusterHolds skew greatest c → s.last ≤ greatest
@@ -89,7 +90,8 @@ all_owned skew greatest s c x i h = ((h.parts s i).0.clients x).session
 pub all_exchanges : (skew greatest : ℕ) (s : Server) (c : Cluster) (x : Session) → In s c.servers → ClusterHolds skew greatest c → AsksOne c x
 all_exchanges skew greatest s c x i h = let e = (h.parts s i).0.exchanges x in record { one = e.one; leads = e.leads; addressed = h.addressed x }
 
-pub all_leads : (skew greatest : ℕ) (s : Server) (c : Cluster) → In s c.servers → ClusterHolds skew greatest c → (l : Leading) → In l s.leading → is_led l.leader.op ≡ true
+pub all_leads : (skew greatest : ℕ) (s : Server) (c : Cluster) → In s c.servers → ClusterHolds skew greatest c → (l : Leading) → In l s.leading
+    → is_led l.leader.op ≡ true
 all_leads skew greatest s c i h l j =
     let q : IsLeading c.lines s h.led.parts l = h.led.leading s i l j in
     let by : Session = l.leader.session in

@@ -1,5 +1,5 @@
 -- What an event of a server makes of what holds of a world of the servers form.
-use Rattle.std.proofs.Common.{◌≡◌, ℕ, ◌≤◌, ◌==◌, true, max, List, ◌++◌, refl, ap, sym, ◌∙◌, subst, inl, inr, arith}
+use Rattle.std.proofs.Common.{◌≡◌, ℕ, ◌≤◌, ◌==◌, max, List, ◌++◌, refl, ap, sym, ◌∙◌, subst, inl, inr, arith}
 use Rattle.std.proofs.lemmas.Bool.{eqb-true}
 use Rattle.std.proofs.lemmas.List.{length-set}
 use Rattle.std.specs.Prelude.{Option, Some, None, slice_get, slice_set}
@@ -9,19 +9,18 @@ use Rattle.fs_ident.specs.In.{In}
 use Rattle.fs_ident.specs.declared.actor.Session.{Session}
 use Rattle.fs_ident.proofs.Booleans.{both}
 use Rattle.fs_ident.proofs.Passing.{found}
-use Rattle.fs_ident.proofs.Same.{one_session}
 use Rattle.fs_ident.proofs.Standing.{In-front, In-got, In-append, In-mapped}
 use Rattle.fs_msg.specs.declared.client_msg.ClientMsg.{ClientMsg}
 use Rattle.fs_msg.specs.declared.client_msg.ClientMsg.TheVariants.{Ask, Renew, Release, Ship, Lead}
 use Rattle.fs_msg.specs.declared.entry.Entry.{Entry}
 use Rattle.fs_msg.specs.declared.item.Item.{Item}
-use Rattle.fs_msg.specs.declared.lead.Lead.{Lead as ToLead}
 use Rattle.fs_client.specs.declared.led.Led.{Led}
 use Rattle.fs_server.specs.Step.{step}
 use Rattle.fs_server.specs.declared.event.ServerEvent.{ServerEvent}
 use Rattle.fs_server.specs.declared.event.ServerEvent.TheVariants.{FromClient, FromPeer, Turn, Recall, Move}
 use Rattle.fs_server.specs.declared.state.Server.{Server}
-use Rattle.fs_serial.specs.Cluster.{Cluster, IsThere, Lines, after_server, after_server_at, after_step, in_flight_from, is_between, is_with, replies_after, with_lines, with_sent, without_first, without_arrived, without_question}
+use Rattle.fs_serial.specs.Cluster.{Cluster, IsThere, Lines, after_server, after_server_at, after_step, in_flight_from, is_between, is_with}
+use Rattle.fs_serial.specs.Cluster.{replies_after, with_lines, with_sent, without_first, without_arrived, without_question}
 use Rattle.fs_serial.specs.Leading.{LedHolds}
 use Rattle.fs_serial.specs.Owed.{ends_in, taken_leads}
 use Rattle.fs_serial.specs.declared.in_flight.InFlight.{InFlight}
@@ -41,7 +40,8 @@ use Rattle.fs_world.proofs.ServedHolds.{Holds, Parts, cluster_of}
 use Rattle.fs_world.proofs.RepliesGiven.{AllTelling, IsTelling}
 use Rattle.fs_world.proofs.ServerTelling.{replies_with, telling_after}
 
-module _ (laws : EventLaws) (count skew greatest : ℕ) (tale : Tale) (p : Parts) (h : Holds laws count skew greatest tale p) (now : ℕ) (k : ℕ) (s : Server) (at : slice_get p.servers k ≡ Some s) where
+module _ (laws : EventLaws) (count skew greatest : ℕ) (tale : Tale) (p : Parts) (h : Holds laws count skew greatest tale p) (now : ℕ)
+    (k : ℕ) (s : Server) (at : slice_get p.servers k ≡ Some s) where
   abbrev pub c : Cluster
   c = cluster_of h.replied p
 
@@ -112,27 +112,38 @@ module _ (laws : EventLaws) (count skew greatest : ℕ) (tale : Tale) (p : Parts
     journal = p.journal ++ (step s now e).out.admitted;
   }
 
-  module _ (e : ServerEvent) (before : SessionStates) (taken : lines_of p.term before ≡ without_question k e (lines_of p.term p.sessions)) (stay : (x : Session) → HasJoined p.sessions x → HasJoined before x) (there : IsThere k e c) (asker : IsAsked (HasJoined before) e) where
+  module _ (e : ServerEvent) (before : SessionStates) (taken : lines_of p.term before ≡ without_question k e (lines_of p.term p.sessions))
+      (stay : (x : Session) → HasJoined p.sessions x → HasJoined before x) (there : IsThere k e c)
+      (asker : IsAsked (HasJoined before) e) where
     step_is : IsOf (HasJoined before) (step s now e)
     step_is = step_of (HasJoined before) s now e asker (λ row i. stay row.session (h.rows s server_in row i))
         (record { leading = λ l i. stay l.leader.session (led_of.leading l i); ending = λ x i. stay x.session (led_of.ending x i) })
 
     abbrev stepped : (Session → Lines) → Cluster
-    stepped lines = record { servers = slice_set p.servers k (step s now e).server; in_flight = without_arrived k e p.in_flight ++ in_flight_from k (step s now e).out.send; journal = p.journal ++ (step s now e).out.admitted; replied = replies_after e (step s now e).out.admitted h.replied; lines = lines }
+    stepped lines = record {
+      servers = slice_set p.servers k (step s now e).server;
+      in_flight = without_arrived k e p.in_flight ++ in_flight_from k (step s now e).out.send;
+      journal = p.journal ++ (step s now e).out.admitted;
+      replied = replies_after e (step s now e).out.admitted h.replied;
+      lines = lines;
+    }
 
     pub core_seen : after_server now k e c ≡ cluster_of (replies_after e (step s now e).out.admitted h.replied) (after_core e before)
     core_seen =
         ap (λ (o : Option Server). after_server_at o now k e c) at
-        ∙ ap (λ (lines : Session → Lines). stepped lines) (ap (with_sent k (step s now e).out.send) (sym taken) ∙ sym (sends_seen p.term k (step s now e).out.send before step_is.sends))
+        ∙ ap (λ (lines : Session → Lines). stepped lines)
+            (ap (with_sent k (step s now e).out.send) (sym taken) ∙ sym (sends_seen p.term k (step s now e).out.send before step_is.sends))
 
     abbrev then : Cluster
     then = cluster_of (replies_after e (step s now e).out.admitted h.replied) (after_core e before)
 
     then_holds : laws.Holds skew (max greatest now) then
-    then_holds = subst (λ (d : Cluster). laws.Holds skew (max greatest now) d) core_seen (laws.event skew (max greatest now) now k e s c at in_time there later_holds)
+    then_holds = subst (λ (d : Cluster). laws.Holds skew (max greatest now) d) core_seen
+        (laws.event skew (max greatest now) now k e s c at in_time there later_holds)
 
     asks_one : (x : Session) → AsksOne then x
-    asks_one x = laws.exchanges skew (max greatest now) (step s now e).server then x (In_new p.servers k s (step s now e).server at) then_holds
+    asks_one x = laws.exchanges skew (max greatest now) (step s now e).server then x
+        (In_new p.servers k s (step s now e).server at) then_holds
 
     step_is_then : after_step k e (step s now e) c ≡ then
     step_is_then = sym (ap (λ (o : Option Server). after_server_at o now k e c) at) ∙ core_seen
@@ -144,8 +155,10 @@ module _ (laws : EventLaws) (count skew greatest : ℕ) (tale : Tale) (p : Parts
         let lead = tale.leads x in
         let after : AsksOne (after_step k e (step s now e) c) x = subst (λ (d : Cluster). AsksOne d x) (sym step_is_then) (asks_one x) in
         subst (λ (d : Cluster). IsTelling x (ends_in d x) (replies_after e (step s now e).out.admitted h.replied x) told lead) step_is_then
-        (subst (λ (items : List Item). IsTelling x (ends_in (after_step k e (step s now e) c) x) items told lead) (sym (replies_with e x (step s now e).out.admitted h.replied))
-        (telling_after k c s at x held (laws.exchanges skew greatest s c x server_in h.cluster) now e there after (h.replied x) told lead (h.answered x)))
+        (subst (λ (items : List Item). IsTelling x (ends_in (after_step k e (step s now e) c) x) items told lead)
+            (sym (replies_with e x (step s now e).out.admitted h.replied))
+        (telling_after k c s at x held (laws.exchanges skew greatest s c x server_in h.cluster) now e there after (h.replied x)
+        told lead (h.answered x)))
 
     joined_then : (x : Session) → HasJoined before x → HasJoined (after_core e before).sessions x
     joined_then x i = downs_joined k (step s now e).out.send before x i
@@ -165,10 +178,12 @@ module _ (laws : EventLaws) (count skew greatest : ℕ) (tale : Tale) (p : Parts
       rows = rows;
       parcels = parcels;
       answered = at_each;
-      items = fine_more p.journal (step s now e).out.admitted h.items (step_fine s now e (event_asks e there) (laws.leads skew greatest s c server_in h.cluster));
+      items = fine_more p.journal (step s now e).out.admitted h.items
+          (step_fine s now e (event_asks e there) (laws.leads skew greatest s c server_in h.cluster));
     }
       where
-        rows : (x : Server) → In x (after_core e before).servers → (row : _) → In row x.rows → HasJoined (after_core e before).sessions row.session
+        rows : (x : Server) → In x (after_core e before).servers → (row : _) → In row x.rows
+            → HasJoined (after_core e before).sessions row.session
         rows x i row j =
             elim (In_set p.servers k (step s now e).server x i) as (λ _. HasJoined (after_core e before).sessions row.session) [
               | inl same ↦ joined_then row.session (step_is.rows row (subst (λ (y : Server). In row y.rows) same j))
@@ -176,35 +191,45 @@ module _ (laws : EventLaws) (count skew greatest : ℕ) (tale : Tale) (p : Parts
             ]
 
         parcels : (f : InFlight) → In f (after_core e before).in_flight → BringsOf (HasJoined (after_core e before).sessions) f.message
-        parcels f i = elim (In-append f (without_arrived k e p.in_flight) (in_flight_from k (step s now e).out.send) i) as (λ _. BringsOf (HasJoined (after_core e before).sessions) f.message) [
-          | inl old ↦ brings_still (HasJoined p.sessions) (HasJoined (after_core e before).sessions) (λ x y. joined_then x (stay x y)) f.message (h.parcels f (left_there e f old))
-          | inr new ↦ brings_still (HasJoined before) (HasJoined (after_core e before).sessions) joined_then f.message (flying_of_these (HasJoined before) k (step s now e).out.send step_is.sends f new)
+        parcels f i = elim (In-append f (without_arrived k e p.in_flight) (in_flight_from k (step s now e).out.send) i) as
+            (λ _. BringsOf (HasJoined (after_core e before).sessions) f.message) [
+          | inl old ↦ brings_still (HasJoined p.sessions) (HasJoined (after_core e before).sessions)
+              (λ x y. joined_then x (stay x y)) f.message (h.parcels f (left_there e f old))
+          | inr new ↦ brings_still (HasJoined before) (HasJoined (after_core e before).sessions) joined_then f.message
+              (flying_of_these (HasJoined before) k (step s now e).out.send step_is.sends f new)
         ]
 
   -- ## A message that comes
 
   -- the question of the session is there, as it was found
-  pub question_there : (by : Session) (state : SessionState) (m : ℕ × ClientMsg) → get p.sessions by.0 ≡ Some state → find (is_with k) state.up ≡ Some m → IsThere k (FromClient by m.1) c
+  pub question_there : (by : Session) (state : SessionState) (m : ℕ × ClientMsg) → get p.sessions by.0 ≡ Some state
+      → find (is_with k) state.up ≡ Some m → IsThere k (FromClient by m.1) c
   question_there by state m is first =
       ap (λ (n : Lines). find (is_with k) n.up) (ap (lines_in p.term by) is) ∙ first
       ∙ ap (λ (j : ℕ). let o : Option (ℕ × ClientMsg) = Some (j, m.1) in o) (eqb-true m.0 k (found (is_with k) state.up m first).1)
 
   pub question_taken : (by : Session) (state : SessionState) (m : ClientMsg) → get p.sessions by.0 ≡ Some state
-      → lines_of p.term (insert p.sessions by.0 (record state { up = without_first (is_with k) state.up })) ≡ without_question k (FromClient by m) (lines_of p.term p.sessions)
+      → lines_of p.term (insert p.sessions by.0 (record state { up = without_first (is_with k) state.up })) ≡ without_question k
+          (FromClient by m) (lines_of p.term p.sessions)
   question_taken by state m is =
       lines_put p.term p.sessions by (record state { up = without_first (is_with k) state.up })
-      ∙ ap (λ (n : Lines). with_lines by (record n { up = without_first (is_with k) n.up }) (lines_of p.term p.sessions)) (sym (ap (lines_in p.term by) is))
+      ∙ ap (λ (n : Lines). with_lines by (record n { up = without_first (is_with k) n.up }) (lines_of p.term p.sessions))
+          (sym (ap (lines_in p.term by) is))
 
   pub message_holds : (by : Session) (state : SessionState) (m : ℕ × ClientMsg) → get p.sessions by.0 ≡ Some state
       → find (is_with k) state.up ≡ Some m
-      → Holds laws count skew (max greatest now) tale (after_core (FromClient by m.1) (insert p.sessions by.0 (record state { up = without_first (is_with k) state.up })))
-  message_holds by state m is first = server_holds (FromClient by m.1) (insert p.sessions by.0 (record state { up = without_first (is_with k) state.up }))
-      (question_taken by state m.1 is) (λ x i. joined_still p.sessions by x (record state { up = without_first (is_with k) state.up }) i) (question_there by state m is first)
+      → Holds laws count skew (max greatest now) tale
+          (after_core (FromClient by m.1) (insert p.sessions by.0 (record state { up = without_first (is_with k) state.up })))
+  message_holds by state m is first = server_holds (FromClient by m.1)
+      (insert p.sessions by.0 (record state { up = without_first (is_with k) state.up }))
+      (question_taken by state m.1 is) (λ x i. joined_still p.sessions by x (record state { up = without_first (is_with k) state.up }) i)
+          (question_there by state m is first)
       (joined_still p.sessions by by (record state { up = without_first (is_with k) state.up }) (state, is))
 
   -- the message of another server is there, as it was found
   flying_is : (j : ℕ) (f : InFlight) → f.from ≡ j → f.to ≡ k → f ≡ record { from = j; to = k; message = f.message }
-  flying_is j f a b = ap (λ (i : ℕ). let g : InFlight = record { from = i; to = f.to; message = f.message } in g) a ∙ ap (λ (i : ℕ). let g : InFlight = record { from = j; to = i; message = f.message } in g) b
+  flying_is j f a b = ap (λ (i : ℕ). let g : InFlight = record { from = i; to = f.to; message = f.message } in g) a
+      ∙ ap (λ (i : ℕ). let g : InFlight = record { from = j; to = i; message = f.message } in g) b
 
   pub flying_there : (j : ℕ) (f : InFlight) → find (is_between j k) p.in_flight ≡ Some f → IsThere k (FromPeer j f.message) c
   flying_there j f first =
