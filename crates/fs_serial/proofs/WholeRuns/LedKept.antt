@@ -96,7 +96,7 @@ moved_where (Moved prefix to) h = (prefix, (to, refl))
 moved_where v h = absurd (cc h)
 
 -- a server leads what a client asks it to
-led_op : (o : Op) (r : Reply) → client.is_led o r ≡ true → is_led o ≡ true
+pub led_op : (o : Op) (r : Reply) → client.is_led o r ≡ true → is_led o ≡ true
 led_op (op.Delete dir name) r e = refl
 led_op (op.Rename sdir sname ddir dname) r e = refl
 led_op o r e = absurd (cc e)
