@@ -37,9 +37,9 @@ module _ (P : Stepped → Type 0) (m : Voted) (s : Server) (other : P (strange s
   home : (l : Leading) (p : Part) → leading_of m.txn s.leading ≡ Some l → P (comes_home m.number p l s)
   home l p f = elim (is_mine s p.file) as
       (λ b. P (cond b (counts_own m.number p (vote_here s l.leader.session p) l s) (seeks m.number (server_of s.map p.file) p l s))) [
-    | true ↦ own l p f
-    | false ↦ sought l p (server_of s.map p.file) f
-  ]
+        | true ↦ own l p f
+        | false ↦ sought l p (server_of s.map p.file) f
+      ]
 
   moved_on : (l : Leading) (to : ℕ) (o : Option Part) → leading_of m.txn s.leading ≡ Some l → P (sent_on m.number to o l s)
   moved_on l to None f = other
@@ -71,9 +71,9 @@ module _ (P : Stepped → Type 0) (m : Done) (s : Server) (other : P (strange s)
   of_ending None f = other
   of_ending (Some x) f = elim (awaits_done m.number x.awaits) as
       (λ b. P (cond b (done_with (without_done m.number x) (without_done m.number x).awaits s) (strange s))) [
-    | true ↦ done x (without_done m.number x).awaits f
-    | false ↦ other
-  ]
+        | true ↦ done x (without_done m.number x).awaits f
+        | false ↦ other
+      ]
 
   pub each_done : P (done_step m s)
   each_done = of_ending (ending_of m.txn s.ending) refl

@@ -20,7 +20,7 @@ use Rattle.fs_server.specs.Step.{step}
 use Rattle.fs_server.specs.declared.event.ServerEvent.{ServerEvent}
 use Rattle.fs_server.specs.declared.event.ServerEvent.TheVariants.{FromClient}
 use Rattle.fs_server.specs.declared.state.Server.{Server}
-use Rattle.fs_serial.specs.Cluster.{CanCome, ClientEvent, Cluster, IsThere, Lines, after_client, after_server, first_cluster}
+use Rattle.fs_serial.specs.Cluster.{CanCome, ClientEvent, Cluster, IsThere, after_client, after_server, first_cluster}
 use Rattle.fs_serial.specs.Cluster.ClientEvent.{Hears}
 use Rattle.fs_serial.specs.Exchange.{LeadsTold, OneExchange}
 use Rattle.fs_serial.specs.Refusals.{IsFairStep}

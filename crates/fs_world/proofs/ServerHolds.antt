@@ -132,7 +132,7 @@ module _ (laws : EventLaws) (count skew greatest : ℕ) (tale : Tale) (p : Parts
     core_seen =
         ap (λ (o : Option Server). after_server_at o now k e c) at
         ∙ ap (λ (lines : Session → Lines). stepped lines)
-            (ap (with_sent k (step s now e).out.send) (sym taken) ∙ sym (sends_seen p.term k (step s now e).out.send before step_is.sends))
+        (ap (with_sent k (step s now e).out.send) (sym taken) ∙ sym (sends_seen p.term k (step s now e).out.send before step_is.sends))
 
     abbrev then : Cluster
     then = cluster_of (replies_after e (step s now e).out.admitted h.replied) (after_core e before)
@@ -156,7 +156,7 @@ module _ (laws : EventLaws) (count skew greatest : ℕ) (tale : Tale) (p : Parts
         let after : AsksOne (after_step k e (step s now e) c) x = subst (λ (d : Cluster). AsksOne d x) (sym step_is_then) (asks_one x) in
         subst (λ (d : Cluster). IsTelling x (ends_in d x) (replies_after e (step s now e).out.admitted h.replied x) told lead) step_is_then
         (subst (λ (items : List Item). IsTelling x (ends_in (after_step k e (step s now e) c) x) items told lead)
-            (sym (replies_with e x (step s now e).out.admitted h.replied))
+        (sym (replies_with e x (step s now e).out.admitted h.replied))
         (telling_after k c s at x held (laws.exchanges skew greatest s c x server_in h.cluster) now e there after (h.replied x)
         told lead (h.answered x)))
 
@@ -193,11 +193,11 @@ module _ (laws : EventLaws) (count skew greatest : ℕ) (tale : Tale) (p : Parts
         parcels : (f : InFlight) → In f (after_core e before).in_flight → BringsOf (HasJoined (after_core e before).sessions) f.message
         parcels f i = elim (In-append f (without_arrived k e p.in_flight) (in_flight_from k (step s now e).out.send) i) as
             (λ _. BringsOf (HasJoined (after_core e before).sessions) f.message) [
-          | inl old ↦ brings_still (HasJoined p.sessions) (HasJoined (after_core e before).sessions)
-              (λ x y. joined_then x (stay x y)) f.message (h.parcels f (left_there e f old))
-          | inr new ↦ brings_still (HasJoined before) (HasJoined (after_core e before).sessions) joined_then f.message
-              (flying_of_these (HasJoined before) k (step s now e).out.send step_is.sends f new)
-        ]
+              | inl old ↦ brings_still (HasJoined p.sessions) (HasJoined (after_core e before).sessions)
+                  (λ x y. joined_then x (stay x y)) f.message (h.parcels f (left_there e f old))
+              | inr new ↦ brings_still (HasJoined before) (HasJoined (after_core e before).sessions) joined_then f.message
+                  (flying_of_these (HasJoined before) k (step s now e).out.send step_is.sends f new)
+            ]
 
   -- ## A message that comes
 
@@ -210,20 +210,20 @@ module _ (laws : EventLaws) (count skew greatest : ℕ) (tale : Tale) (p : Parts
 
   pub question_taken : (by : Session) (state : SessionState) (m : ClientMsg) → get p.sessions by.0 ≡ Some state
       → lines_of p.term (insert p.sessions by.0 (record state { up = without_first (is_with k) state.up })) ≡ without_question k
-          (FromClient by m) (lines_of p.term p.sessions)
+      (FromClient by m) (lines_of p.term p.sessions)
   question_taken by state m is =
       lines_put p.term p.sessions by (record state { up = without_first (is_with k) state.up })
       ∙ ap (λ (n : Lines). with_lines by (record n { up = without_first (is_with k) n.up }) (lines_of p.term p.sessions))
-          (sym (ap (lines_in p.term by) is))
+      (sym (ap (lines_in p.term by) is))
 
   pub message_holds : (by : Session) (state : SessionState) (m : ℕ × ClientMsg) → get p.sessions by.0 ≡ Some state
       → find (is_with k) state.up ≡ Some m
       → Holds laws count skew (max greatest now) tale
-          (after_core (FromClient by m.1) (insert p.sessions by.0 (record state { up = without_first (is_with k) state.up })))
+      (after_core (FromClient by m.1) (insert p.sessions by.0 (record state { up = without_first (is_with k) state.up })))
   message_holds by state m is first = server_holds (FromClient by m.1)
       (insert p.sessions by.0 (record state { up = without_first (is_with k) state.up }))
       (question_taken by state m.1 is) (λ x i. joined_still p.sessions by x (record state { up = without_first (is_with k) state.up }) i)
-          (question_there by state m is first)
+      (question_there by state m is first)
       (joined_still p.sessions by by (record state { up = without_first (is_with k) state.up }) (state, is))
 
   -- the message of another server is there, as it was found

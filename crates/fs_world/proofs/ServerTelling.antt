@@ -241,7 +241,7 @@ module _ (c : Cluster) (x : Session) (h : AsksOne c x) where
       let a : Answer = answer.Led e in
       ap (λ o. items_with x o (ends_in c x).down) is
       ∙ one_comes x d (ends_in c x).down a
-          (alone l l.exchange (ends_in c x).up (ends_in c x).down h.one a (kept_in (λ z. not (is_recall z)) a (ends_in c x).down i refl))
+      (alone l l.exchange (ends_in c x).up (ends_in c x).down h.one a (kept_in (λ z. not (is_recall z)) a (ends_in c x).down i refl))
 
 -- ## How an operation ends
 
@@ -273,12 +273,12 @@ module _ (x : Session) (d : Led) (l : Leader) (its : (l.session.0 == x.0) ≡ tr
 
   commit_ends : (r : Reply)
       → item_with x (Some d) (answer.Led (end.Done r)) ≡ items_by x
-          ((let i : Item = record { by = OfSession l.session; n = l.n; op = l.op; reply = r } in i) ∷ [])
+      ((let i : Item = record { by = OfSession l.session; n = l.n; op = l.op; reply = r } in i) ∷ [])
   commit_ends r =
       ap (λ (n : ℕ). let i : Item = record { by = OfSession x; n = n; op = d.entry.op; reply = r } in i ∷ []) (sym number)
       ∙ ap (λ (o : Op). let i : Item = record { by = OfSession x; n = l.n; op = o; reply = r } in i ∷ []) (sym op)
       ∙ ap (λ (y : Session). let i : Item = record { by = OfSession y; n = l.n; op = l.op; reply = r } in i ∷ [])
-          (sym (one_session l.session x its))
+      (sym (one_session l.session x its))
       ∙ sym (ap (λ b. cond b (let i : Item = record { by = OfSession l.session; n = l.n; op = l.op; reply = r } in i ∷ []) []) its)
 
   agreed_ends : (b : Bool) → EndsAs (cond b (by_path l None) (commit l (reply_of l.op)))
@@ -337,7 +337,7 @@ module _ (k : ℕ) (c : Cluster) (s : Server) (at : slice_get c.servers k ≡ So
       → Brings k x led y.out.send (brought e x y.out.admitted) → IsBrought e y
   still e y owed more =
       ap (items_with x led) (down_is e y ∙ ap (λ os. os ++ (heard ++ sent y)) owed
-          ∙ sym (append_assoc (owed_to x c.servers) heard (sent y)))
+      ∙ sym (append_assoc (owed_to x c.servers) heard (sent y)))
       ∙ more_come x led (owed_to x c.servers ++ heard) (sent y)
       ∙ ap (λ is. items_with x led (owed_to x c.servers ++ heard) ++ is) more
 
@@ -396,16 +396,16 @@ module _ (k : ℕ) (c : Cluster) (s : Server) (at : slice_get c.servers k ≡ So
         at_either [] over =
             let is : sent y ≡ its_end ∷ [] =
             ap messages (tells_end ∙ ap (λ out. answers_to k x (ends_now out z.session z.end)) over
-                ∙ ap (λ b. cond b ((k, its_end) ∷ []) [] ++ []) mine) in
+            ∙ ap (λ b. cond b ((k, its_end) ∷ []) [] ++ []) mine) in
             In-behind its_end (owed_to x (then e y).servers) (heard ++ sent y)
-                (In-behind its_end heard (sent y) (subst (In its_end) (sym is) (inl refl)))
+            (In-behind its_end heard (sent y) (subst (In its_end) (sym is) (inl refl)))
         at_either (p ∷ ps) more =
             let there : In z y.server.ending =
             subst (In z) (sym its) (ending_there z s.ending (ap (λ out. is_some (slice_get out 0)) more)) in
             let owed : In its_end (owed_at x y.server) =
             In-mapped (λ (w : Ending). answer.Led w.end) z (filter own y.server.ending) (kept_in own z y.server.ending there mine) in
             In-front its_end (owed_to x (then e y).servers) (heard ++ sent y)
-                (In_all (owed_at x) its_end y.server (then e y).servers (In_new c.servers k s y.server at) owed)
+            (In_all (owed_at x) its_end y.server (then e y).servers (In_new c.servers k s y.server at) owed)
 
     -- then it is what comes
     comes_then : (z.session.0 == x.0) ≡ true → AsksOne (then e y) x → (d : Led) → led ≡ Some d
@@ -493,7 +493,7 @@ module _ (k : ℕ) (c : Cluster) (s : Server) (at : slice_get c.servers k ≡ So
           asked = asks;
           stands = In-behind asks (messages (c.lines by).up) (taken_leads by (c.lines by).client.led c.servers)
               (subst (λ o. In asks (taken_leads by o c.servers)) (sym q.client.led)
-                  (In_all (taken_at by (Some q.led)) asks s c.servers here taken));
+              (In_all (taken_at by (Some q.led)) asks s c.servers here taken));
         }
 
     -- ## What a session asks to lead
@@ -538,7 +538,7 @@ module _ (k : ℕ) (c : Cluster) (s : Server) (at : slice_get c.servers k ≡ So
       lead_passes y (begins_it l r) after =
           let g : Round = round_of by m u in
           goes before asks_it (note.Prepares (txn_of u))
-              (record { leader = leader_with (txn_of u) by m g.votes; at = g.at }) g.send g.server
+          (record { leader = leader_with (txn_of u) by m g.votes; at = g.at }) g.send g.server
           (ap (λ (z : Server). z.ending) (rounds_server (txn_of u) 0 by (parts_in m) (first_round u)))
           (rounds_quiet k x (txn_of u) 0 by (parts_in m) (first_round u) refl)
           (λ items. refl) new_txn (asked_awaited g.votes) after
@@ -658,16 +658,16 @@ module _ (k : ℕ) (c : Cluster) (s : Server) (at : slice_get c.servers k ≡ So
       ]
       peer_passes from (Prepare m) after = elim (is_prepared m.txn m.number b.prepared) as
           (λ a. IsBrought (FromPeer from (Prepare m)) (cond a (strange b) (votes (vote_here b m.session m.part) from m b))) [
-        | true ↦ quiet (FromPeer from (Prepare m)) (strange b) refl refl refl
-        | false ↦ quiet (FromPeer from (Prepare m)) (votes (vote_here b m.session m.part) from m b)
-            (vote_keeps (vote_here b m.session m.part) m) refl refl
-      ]
+            | true ↦ quiet (FromPeer from (Prepare m)) (strange b) refl refl refl
+            | false ↦ quiet (FromPeer from (Prepare m)) (votes (vote_here b m.session m.part) from m b)
+                (vote_keeps (vote_here b m.session m.part) m) refl refl
+          ]
       peer_passes from (Vote m) after = vote_passes now from m after
       peer_passes from (Decide m) after = elim (is_prepared m.txn m.number b.prepared) as
           (λ a. IsBrought (FromPeer from (Decide m)) (cond a (applies from m b) (strange b))) [
-        | true ↦ quiet (FromPeer from (Decide m)) (applies from m b) refl refl refl
-        | false ↦ quiet (FromPeer from (Decide m)) (strange b) refl refl refl
-      ]
+            | true ↦ quiet (FromPeer from (Decide m)) (applies from m b) refl refl refl
+            | false ↦ quiet (FromPeer from (Decide m)) (strange b) refl refl refl
+          ]
       peer_passes from (Done m) after = done_passes now from m (ending_of m.txn s.ending) refl after
 
       message_passes : (by : Session) (m : ClientMsg) → IsThere k (FromClient by m) c → Passes (FromClient by m) (message_step by m b)
@@ -721,7 +721,7 @@ module _ (k : ℕ) (c : Cluster) (s : Server) (at : slice_get c.servers k ≡ So
               front = f;
               split = ap (λ is. is ++ more) h.told.split ∙ append_assoc f (items_with x led (ends_in c x).down) more
                   ∙ ap (λ is. f ++ is) (sym (event_passes e there after)
-                      ∙ ap (λ o. items_with x o (ends_in (then e y) x).down) (sym (led_still e y)));
+                  ∙ ap (λ o. items_with x o (ends_in (then e y) x).down) (sym (led_still e y)));
               told = h.told.told;
             };
             asked = λ d i. h.asked d (sym (led_still e y) ∙ i);
