@@ -1,4 +1,5 @@
 mod generated;
+mod led;
 mod moves;
 mod nodes;
 mod poor;
@@ -10,6 +11,10 @@ use crate::status::Status;
 use crate::top::farsite;
 use fs_io::{MemClock, MemSink, MemSource, SureLink};
 use fs_schedule::Which;
+use led::{
+    DELETE_BEGINS, DELETE_ENDS, MOVE_MEANWHILE, OVER_THREE_ABORTS, OVER_THREE_BEGINS,
+    OVER_THREE_ENDS, Piece, RENAME_BEGINS, RENAME_ENDS, RENAME_IS_DECIDED,
+};
 use moves::{
     DELEGATION, DELEGATION_REPORT, OVERTAKEN, OVERTAKEN_REPORT, REFUSED_MOVES,
     REFUSED_MOVES_REPORT, SENT_ON, SENT_ON_REPORT,
@@ -176,6 +181,32 @@ fn reports_of_moves_to_the_byte(rt: HostRuntime) -> Result<(), Fail> {
     reports(&rt, rt.alloc(), OVERTAKEN, OVERTAKEN_REPORT)?;
     reports(&rt, rt.alloc(), REFUSED_MOVES, REFUSED_MOVES_REPORT)?;
     reports(&rt, rt.alloc(), SENT_ON, SENT_ON_REPORT)
+}
+
+/// The report of a beginning of a schedule and an end.
+fn goes_on(rt: &impl Abort, alloc: Global, begun: Piece, end: Piece) -> Result<(), Fail> {
+    let (status, written) = replayed(alloc, begun.0, end.0, 1, NONE)?;
+    let mut report = Vec::from_slice(alloc, begun.1)?;
+    report.extend_from_slice(end.1)?;
+    same(rt, status, Status::Done);
+    same(rt, written.as_slice(), report.as_slice());
+    Ok(())
+}
+
+/// A delete that a server leads alone, and a rename with another server.
+#[test]
+fn reports_of_led_operations_to_the_byte(rt: HostRuntime) -> Result<(), Fail> {
+    let alloc = rt.alloc();
+    goes_on(&rt, alloc, DELETE_BEGINS, DELETE_ENDS)?;
+    goes_on(&rt, alloc, RENAME_BEGINS, RENAME_ENDS)?;
+    goes_on(&rt, alloc, RENAME_BEGINS, RENAME_IS_DECIDED)?;
+    goes_on(&rt, alloc, RENAME_BEGINS, MOVE_MEANWHILE)
+}
+
+#[test]
+fn reports_of_a_rename_over_three_servers_to_the_byte(rt: HostRuntime) -> Result<(), Fail> {
+    goes_on(&rt, rt.alloc(), OVER_THREE_BEGINS, OVER_THREE_ENDS)?;
+    goes_on(&rt, rt.alloc(), OVER_THREE_BEGINS, OVER_THREE_ABORTS)
 }
 
 /// How a replay ends that writes nothing.

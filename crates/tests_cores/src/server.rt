@@ -10,6 +10,7 @@ mod leads;
 mod moves;
 mod opens;
 mod said;
+mod three_servers;
 
 use crate::forms::{copied, none_such, reads, same, spend};
 use fs_field::Field;
@@ -447,7 +448,7 @@ fn leases_are_renewed_and_released(rt: HostRuntime) -> Result<(), Fail> {
     done
 }
 
-/// A log with a delete; to lead a look-up; and while no server leads operations with parts elsewhere, that a part is done.
+/// A log with a delete; to lead a look-up; and that a part is done of a transaction that is not led here.
 const ODD: &[Line] = &[
     (
         0,

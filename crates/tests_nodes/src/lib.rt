@@ -4,6 +4,8 @@
 #[cfg(test)]
 mod led;
 #[cfg(test)]
+mod led_between;
+#[cfg(test)]
 mod nodes;
 #[cfg(test)]
 mod several;

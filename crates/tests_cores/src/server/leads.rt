@@ -97,7 +97,7 @@ const ENDED: &str =
 
 const WANTED: &str = "Refuses { why: Wanted { file: FileId { numbers: [] } } }";
 
-/// A directory is not deleted, nor a file that is to go to another server by then; after the leases' end nothing is.
+/// A directory is not deleted, and after the leases' end nothing is. Once the file has gone, its server is asked.
 const PUT_OFF: &[Line] = &[
     (
         0,
@@ -119,7 +119,12 @@ const PUT_OFF: &[Line] = &[
         Seen::Note,
         "Moves { prefix: FileId { numbers: [1] }, to: 1 }",
     ),
-    (112, Event::From(1, said::LEAD_DELETE), Seen::Note, WANTED),
+    (
+        112,
+        Event::From(1, said::LEAD_DELETE),
+        Seen::Note,
+        "Prepares { txn: TxnNo { server: 0, count: 2 } }",
+    ),
 ];
 
 #[test]

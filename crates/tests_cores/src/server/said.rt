@@ -142,3 +142,91 @@ pub(crate) const DECIDE: &[u8] = &[
 
 /// What the third part does: nothing.
 pub(crate) const DECIDE_MORE: &[u8] = &[35, 0, 0, 0, 0, 0, 0, 0, 0, 7, 2, 0, 0, 0, 0, 0, 0, 0, 0];
+
+/// A log of the create of a directory, as the file 1, by the first lease.
+pub(crate) const LOG_OF_DIR: &[u8] = &[
+    4, 0, 0, 0, 0, 0, 0, 0, 1, 0, 0, 0, 0, 0, 0, 0, 1, 4, 128, 1, 97, 1, 1, 80, 12, 0, 0, 0, 0, 0,
+    0, 0, 1, 0, 128, 0, 0, 0, 0, 0, 0, 0, 0, 0, 1, 0, 0, 0, 0, 0, 0, 0, 100,
+];
+
+/// For the name `f` in the directory 1, and an identifier below it.
+pub(crate) const ASK_BELOW: &[u8] = &[1, 0, 0, 0, 0, 0, 0, 0, 1, 1, 80, 1, 102, 1, 1, 80];
+
+/// A log of the create of `f` there, as the file 1/1, by the fourth lease.
+pub(crate) const LOG_BELOW: &[u8] = &[
+    4, 0, 0, 0, 0, 0, 0, 0, 1, 0, 0, 0, 0, 0, 0, 0, 2, 4, 80, 1, 102, 0, 1, 120, 12, 0, 0, 0, 0, 0,
+    0, 0, 1, 1, 80, 1, 102, 1, 0, 0, 0, 0, 0, 0, 0, 0, 4, 0, 0, 0, 0, 0, 0, 0, 102,
+];
+
+/// The parcel of the directory 1, but for the file 1/1, with the leases of the first session.
+pub(crate) const DIR_PARCEL: &[u8] = &[
+    37, 80, 80, 0, 0, 0, 0, 0, 0, 0, 2, 80, 1, 120, 0, 0, 0, 0, 0, 0, 0, 0, 1, 80, 1, 1, 128, 1,
+    97, 0, 0, 0, 0, 0, 0, 0, 1, 1, 102, 120, 0, 0, 0, 0, 0, 0, 0, 0, 0, 0, 0, 0, 0, 0, 0, 0, 0, 0,
+    0, 0, 0, 0, 0, 0, 0, 0, 0, 0, 0, 0, 0, 2, 0, 0, 0, 0, 0, 0, 0, 2, 0, 0, 0, 0, 0, 0, 0, 0, 3, 0,
+    1, 0, 80, 1, 0, 0, 0, 0, 0, 0, 0, 100, 0, 0, 0, 0, 0, 0, 0, 0, 0, 0, 4, 0, 1, 1, 80, 1, 102, 1,
+    0, 0, 0, 0, 0, 0, 0, 102, 0, 0,
+];
+
+/// The parcel of the file 1/1, whose life the first session has leased.
+pub(crate) const FILE_PARCEL: &[u8] = &[
+    37, 120, 120, 0, 0, 0, 0, 0, 0, 0, 1, 120, 1, 0, 0, 0, 0, 0, 0, 0, 1, 120, 0, 1, 80, 1, 102, 0,
+    0, 0, 0, 0, 0, 0, 0, 0, 0, 0, 0, 0, 0, 0, 0, 0, 0, 0, 0, 0, 0, 0, 0, 0, 0, 0, 0, 0, 0, 0, 0, 0,
+    0, 0, 0, 0, 0, 0, 1, 0, 0, 0, 0, 0, 0, 0, 1, 0, 0, 0, 0, 0, 0, 0, 0, 5, 0, 1, 0, 120, 1, 0, 0,
+    0, 0, 0, 0, 0, 102, 0, 0,
+];
+
+/// To lead the rename of `f`, the file 1/1, from the directory 1 to `g` in the root, with a lease on each of the three.
+pub(crate) const LEAD_OVER_THREE: &[u8] = &[
+    5, 0, 0, 0, 0, 0, 0, 0, 3, 9, 80, 1, 102, 128, 1, 103, 120, 0, 0, 0, 0, 0, 0, 0, 0, 3, 0, 128,
+    0, 0, 0, 0, 0, 0, 0, 0, 0, 1, 0, 0, 0, 0, 0, 0, 0, 100, 1, 80, 1, 102, 1, 0, 0, 0, 0, 0, 0, 0,
+    0, 4, 0, 0, 0, 0, 0, 0, 0, 102, 0, 120, 1, 0, 0, 0, 0, 0, 0, 0, 0, 5, 0, 0, 0, 0, 0, 0, 0, 102,
+];
+
+/// Whether the second part of the first transaction that the server 0 leads is ready: the directory 1, by its lease.
+pub(crate) const PREPARE_DIR: &[u8] = &[
+    33, 0, 0, 0, 0, 0, 0, 0, 0, 1, 1, 0, 1, 80, 0, 0, 0, 0, 0, 0, 0, 1, 1, 80, 1, 102, 1, 0, 0, 0,
+    0, 0, 0, 0, 0, 4, 0, 0, 0, 0, 0, 0, 0, 102, 0,
+];
+
+/// Whether its third part is: the file 1/1, by its lease.
+pub(crate) const PREPARE_FILE: &[u8] = &[
+    33, 0, 0, 0, 0, 0, 0, 0, 0, 1, 2, 0, 1, 120, 0, 0, 0, 0, 0, 0, 0, 1, 0, 120, 1, 0, 0, 0, 0, 0,
+    0, 0, 0, 5, 0, 0, 0, 0, 0, 0, 0, 102, 0,
+];
+
+/// The second part is ready.
+pub(crate) const YES_OF_DIR: &[u8] = &[34, 0, 0, 0, 0, 0, 0, 0, 0, 1, 1, 0];
+
+/// The third part is.
+pub(crate) const YES_OF_FILE: &[u8] = &[34, 0, 0, 0, 0, 0, 0, 0, 0, 1, 2, 0];
+
+/// The lease of the third part is over.
+pub(crate) const ENDED_OF_FILE: &[u8] = &[
+    34, 0, 0, 0, 0, 0, 0, 0, 0, 1, 2, 1, 0, 0, 0, 0, 0, 0, 0, 0, 5, 0, 0, 0, 0, 0, 0, 0, 102, 0, 0,
+    0, 0, 0, 0, 0, 200,
+];
+
+/// The file of the third part is with the server 2.
+pub(crate) const FILE_AT_2: &[u8] = &[34, 0, 0, 0, 0, 0, 0, 0, 0, 1, 2, 2, 120, 2];
+
+/// What begins with the root, and so the file of the third part, is with the server 0.
+pub(crate) const ROOT_AT_0: &[u8] = &[34, 0, 0, 0, 0, 0, 0, 0, 0, 1, 2, 2, 128, 0];
+
+/// What the second part does: the name `f` goes from the directory 1.
+pub(crate) const DECIDE_DIR: &[u8] = &[
+    35, 0, 0, 0, 0, 0, 0, 0, 0, 1, 1, 0, 0, 0, 0, 0, 0, 0, 1, 0, 80, 1, 102, 0,
+];
+
+/// What the third part does: the file 1/1 stands under `g` in the root.
+pub(crate) const DECIDE_FILE: &[u8] = &[
+    35, 0, 0, 0, 0, 0, 0, 0, 0, 1, 2, 0, 0, 0, 0, 0, 0, 0, 1, 1, 120, 128, 1, 103,
+];
+
+/// The second part does nothing.
+pub(crate) const DECIDE_NONE: &[u8] = &[35, 0, 0, 0, 0, 0, 0, 0, 0, 1, 1, 0, 0, 0, 0, 0, 0, 0, 0];
+
+/// What the second part had to do is done.
+pub(crate) const DONE_OF_DIR: &[u8] = &[36, 0, 0, 0, 0, 0, 0, 0, 0, 1, 1];
+
+/// What the third part had to do is done.
+pub(crate) const DONE_OF_FILE: &[u8] = &[36, 0, 0, 0, 0, 0, 0, 0, 0, 1, 2];
