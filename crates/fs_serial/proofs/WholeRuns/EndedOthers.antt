@@ -1,5 +1,5 @@
 -- Whatever is no word of a transaction tells of no lease that it had ended, and no row with an old number is new then.
-use Rattle.std.proofs.Common.{◌≡◌, ℕ, ◌≤◌, Bool, true, false, List, [], ◌∷◌, cond, length, refl, sym, ap, ◌∙◌, subst, inl, inr, arith}
+use Rattle.std.proofs.Common.{◌≡◌, ℕ, ◌≤◌, Bool, true, false, List, [], ◌∷◌, ◌++◌, cond, length, refl, sym, ap, ap₂, ◌∙◌, subst, inl, inr, arith}
 use Rattle.std.specs.Prelude.{Option, Some, None, slice_get, slice_set}
 use Rattle.std.specs.List.{list_all}
 use Rattle.fs_ident.specs.In.{In}
@@ -37,6 +37,8 @@ use Rattle.fs_server.specs.declared.event.ServerEvent.{ServerEvent}
 use Rattle.fs_server.specs.declared.event.ServerEvent.TheVariants as event
 use Rattle.fs_server.specs.declared.state.Server.{Server}
 use Rattle.fs_server.proofs.OneByOne.{reaps_leave}
+use Rattle.fs_txn.specs.Stages.{Told}
+use Rattle.fs_txn.specs.Stages.Word.{Voted}
 use Rattle.fs_txn.specs.declared.leading.Leading.{Leading}
 use Rattle.fs_serial.specs.Cluster.{Cluster, InFlight, IsThere, after_step, in_flight_from, is_between, is_with, replies_after, without_arrived, without_question}
 use Rattle.fs_serial.specs.EndedLeases.{EndsFair, WasEnded}
@@ -49,7 +51,7 @@ use Rattle.fs_serial.specs.Words.{IsNoneOfLed, decided_in, key_of, telling_of, t
 use Rattle.fs_serial.specs.World.{IsOther}
 use Rattle.fs_serial.proofs.ClientMessages.Sending.{IsRecallTo, recall_all, recall_each, recall_with}
 use Rattle.fs_serial.proofs.Lists.Counting.{given_by}
-use Rattle.fs_serial.proofs.Lists.SetAt.{In_without}
+use Rattle.fs_serial.proofs.Lists.SetAt.{In_without, get_here}
 use Rattle.fs_serial.proofs.Lists.Traffic.{messages}
 use Rattle.fs_serial.proofs.Moves.Arriving.{arriving_same}
 use Rattle.fs_serial.proofs.Moves.Leaving.{move_same}
@@ -129,12 +131,36 @@ event_free (event.FromPeer from (peer.Decide m)) s none to e i = absurd (cc none
 event_free (event.FromPeer from (peer.Done m)) s none to e i = absurd (cc none)
 event_free event.Turn s none to e i = turn_free (lapsed_in s) s to e i
 event_free (event.Recall field) s none to e i = recalls_free (recalls_of (recalled_on field s)) (recall_all (recalled_on field s)) to e i
-event_free (event.Move prefix at) s none to e i = move_free (move_refusal s.records s.rows s.map s.me prefix None) prefix at s to e i
+event_free (event.Move prefix at) s none to e i = move_free (move_refusal s.records s.rows s.map s.me prefix at None) prefix at s to e i
+
+-- what is sent to a server is on its way to it
+pub flight_there : (k : ℕ) (ms : List (Peer × Msg)) (to : ℕ) (m : PeerMsg) → In (OfServer to, msg.Peer m) ms
+    → In (let f : InFlight = record { from = k; to = to; message = m } in f) (in_flight_from k ms)
+flight_there k [] to m i = absurd i
+flight_there k ((OfServer t, msg.Peer x) ∷ rest) to m (inl e) =
+    let place : OfServer to ≡ OfServer t = ap (λ (p : Peer × Msg). p.0) e in
+    let word : msg.Peer m ≡ msg.Peer x = ap (λ (p : Peer × Msg). p.1) e in
+    let at : to ≡ t = cc in
+    let is : m ≡ x = cc in
+    inl (ap₂ (λ (n : ℕ) (y : PeerMsg). let f : InFlight = record { from = k; to = n; message = y } in f) at is)
+flight_there k ((OfServer t, msg.Peer x) ∷ rest) to m (inr i) = inr (flight_there k rest to m i)
+flight_there k ((OfServer t, msg.Answer a) ∷ rest) to m (inl e) =
+    let wrong : msg.Peer m ≡ msg.Answer a = ap (λ (p : Peer × Msg). p.1) e in absurd (cc wrong)
+flight_there k ((OfServer t, msg.Answer a) ∷ rest) to m (inr i) = flight_there k rest to m i
+flight_there k ((OfServer t, msg.Client a) ∷ rest) to m (inl e) =
+    let wrong : msg.Peer m ≡ msg.Client a = ap (λ (p : Peer × Msg). p.1) e in absurd (cc wrong)
+flight_there k ((OfServer t, msg.Client a) ∷ rest) to m (inr i) = flight_there k rest to m i
+flight_there k ((OfSession t, x) ∷ rest) to m (inl e) =
+    let wrong : OfServer to ≡ OfSession t = ap (λ (p : Peer × Msg). p.0) e in absurd (cc wrong)
+flight_there k ((OfSession t, x) ∷ rest) to m (inr i) = flight_there k rest to m i
 
 -- a vote that is sent is a word of a transaction
 vote_told : (k : ℕ) (ms : List (Peer × Msg)) → telling_of (in_flight_from k ms) ≡ [] → (to : ℕ) (m : VotedMsg)
     → In (OfServer to, msg.Peer (peer.Vote m)) ms → ⊥
-vote_told k ms none to m i = _
+vote_told k ms none to m i =
+    let told : Told = told_with k to (key_of m.txn m.number, Voted m.vote) in
+    subst (In told) none (In-filter_map told_in (record { from = k; to = to; message = peer.Vote m }) told (in_flight_from k ms)
+    (flight_there k ms to (peer.Vote m) i) refl)
 
 -- ## Rows
 
@@ -182,7 +208,93 @@ module _ (skew greatest k : ℕ) (c : Cluster) (s : Server) (at : slice_get c.se
       own j = count_own c.servers k s at me j
 
       then : (j : ℕ) → given_by (counts_of c.servers) big.server j ≡ given_at (slice_get (slice_set c.servers k small.server) j)
-      then j = _
+      then j =
+          let its : small.server.me ≡ k = same.me ∙ me in
+          ap (λ (t : Server). given_by (counts_of c.servers) t j) same.server
+          ∙ sym (count_set given_at c.servers k small.server.me small.server.given small.server its j)
+          ∙ count_own (slice_set c.servers k small.server) k small.server (get_here c.servers k s small.server at) its j
+
+  asked_later : (by : Session) (m : ClientMsg) → IsThere k (event.FromClient by m) c → IsOther (event.FromClient by m)
+      → RowsLater c (after_step k (event.FromClient by m) (event_step (event.FromClient by m) s) c)
+  asked_later by m there other =
+      let e : ServerEvent = event.FromClient by m in
+      let w = view skew greatest k c s at h in
+      let coming : In m (ends_in c by).up = In-front m (messages (c.lines by).up) (taken_leads by (c.lines by).client.led c.servers)
+      (In-mapped (λ (n : ℕ × ClientMsg). n.1) (k, m) (c.lines by).up (found (is_with k) (c.lines by).up (k, m) there).0) in
+      seen_later e (event_step e s) (event_step e (with_all s c))
+      (begun_in greatest k c s e at h.places (decided_in c) (ends_in c) w.0 w.1 coming other (λ z. absurd (cc)))
+      (message_later (counts_of c.servers) by m (with_all s c) other)
+
+  rises : (t : Server) → t.given ≡ s.given → (j : ℕ)
+      → given_at (slice_get c.servers j) ≤ given_at (slice_get (slice_set c.servers k t) j)
+  rises t given = counts_rise c.servers k s t at (omega (arith, given))
+
+  parcel_later : (from : ℕ) (p : Parcel) → IsThere k (event.FromPeer from (peer.Parcel p)) c
+      → RowsLater c (after_step k (event.FromPeer from (peer.Parcel p)) (event_step (event.FromPeer from (peer.Parcel p)) s) c)
+  parcel_later from p there =
+      let e : ServerEvent = event.FromPeer from (peer.Parcel p) in
+      let x : Stepped = only_noted (note.Installs p.prefix) (installed p s) in
+      let is : x ≡ event_step e s = ap (λ b. parcel_at b p s) (sym (parcel_fits skew greatest k c s at h from p there)) in
+      subst (λ (y : Stepped). RowsLater c (after_step k e y c)) is
+      (same_later c (after_step k e x c) (arriving_same k from c s p at h.places there).0 (rises x.server refl))
+
+  move_later : (prefix : List ℕ) (to : ℕ)
+      → RowsLater c (after_step k (event.Move prefix to) (event_step (event.Move prefix to) s) c)
+  move_later prefix to =
+      let e : ServerEvent = event.Move prefix to in
+      same_later c (after_step k e (event_step e s) c) (move_same k c s prefix to at h.places).0
+      (rises (event_step e s).server (move_given (move_refusal s.records s.rows s.map s.me prefix to None) prefix to s))
 
   other_later : (e : ServerEvent) → IsThere k e c → IsNoneOfLed e → RowsLater c (after_step k e (event_step e s) c)
-  other_later e there none = _
+  other_later (event.FromClient by (Ask items dir)) there none = asked_later by (Ask items dir) there tt
+  other_later (event.FromClient by (Renew pairs)) there none = asked_later by (Renew pairs) there tt
+  other_later (event.FromClient by (Release pairs)) there none = asked_later by (Release pairs) there tt
+  other_later (event.FromClient by (Ship entries)) there none = asked_later by (Ship entries) there tt
+  other_later (event.FromClient by (Lead m)) there none = absurd none
+  other_later (event.FromPeer from (peer.Parcel p)) there none = parcel_later from p there
+  other_later (event.FromPeer from (peer.Prepare m)) there none = absurd (cc none)
+  other_later (event.FromPeer from (peer.Vote m)) there none = absurd (cc none)
+  other_later (event.FromPeer from (peer.Decide m)) there none = absurd (cc none)
+  other_later (event.FromPeer from (peer.Done m)) there none = absurd (cc none)
+  other_later event.Turn there none =
+      seen_later event.Turn (turn_step s) (turn_over (lapsed_in s) (with_all s c)) (turn_same k c s at h.places)
+      (turn_later (counts_of c.servers) (lapsed_in s) (with_all s c))
+  other_later (event.Recall field) there none =
+      let e : ServerEvent = event.Recall field in
+      let w = view skew greatest k c s at h in
+      seen_later e (event_step e s) (event_step e (with_all s c))
+      (begun_in greatest k c s e at h.places (decided_in c) (ends_in c) w.0 w.1 tt tt (λ z. absurd (cc)))
+      (later_itself (given_by (counts_of c.servers) (with_all s c)) (with_all s c).rows)
+  other_later (event.Move prefix to) there none = move_later prefix to
+
+  arrived_among : (e : ServerEvent) (z : InFlight) → In z (without_arrived k e c.in_flight) → In z c.in_flight
+  arrived_among (event.FromPeer from m) z i = In_without (is_between from k) c.in_flight z i
+  arrived_among (event.FromClient by m) z i = i
+  arrived_among event.Turn z i = i
+  arrived_among (event.Recall field) z i = i
+  arrived_among (event.Move prefix to) z i = i
+
+  pub other_fair : EndsFair c → (e : ServerEvent) → IsThere k e c → IsNoneOfLed e → EndsFair (after_step k e (event_step e s) c)
+  other_fair f e there none =
+      let x : Stepped = event_step e s in
+      let leaves : LeavesLed k e s x c = other_leaves skew greatest k c s at h e there none in
+      let left : List InFlight = without_arrived k e c.in_flight in
+      let lines = without_question k e c.lines in
+      let journal = c.journal ++ x.out.admitted in
+      let replied = replies_after e x.out.admitted c.replied in
+      let later : RowsLater c (after_step k e x c) = other_later e there none in
+      let clients = taken_client k e c.lines in
+      step_fair skew greatest k c s at h f left lines x.server x.out.send journal replied (record {
+        later = later;
+        among = arrived_among e;
+        clients = clients;
+        heard = taken_down k e c.lines;
+        leading = λ l i.
+            old_leading skew greatest k c s at h f left lines x.server x.out.send journal replied later clients l (subst (In l) leaves.leading i);
+        before = λ l o i. one_leading skew greatest k c s at h f left lines x.server x.out.send journal replied l o
+            (subst (In l) leaves.leading i);
+        ending = λ y i.
+            old_ending skew greatest k c s at h f left lines x.server x.out.send journal replied later clients y (subst (In y) leaves.ending i);
+        votes = λ to m i. absurd (vote_told k x.out.send leaves.words to m i);
+        answers = λ to z i. absurd (event_free e s none to z i);
+      })
