@@ -24,3 +24,6 @@ pub mod EndedStay
 pub mod EndedVotes
 pub mod EndedSteps
 pub mod EndedOthers
+pub mod EndedDecisions
+pub mod EndedLed
+pub mod EndedEvents

@@ -66,7 +66,7 @@ use Rattle.fs_serial.proofs.Transactions.OthersKeep.{taken_client}
 use Rattle.fs_serial.proofs.Transactions.StandsAfter.{view}
 use Rattle.fs_serial.proofs.WholeRuns.Addressing.{recall_free}
 use Rattle.fs_serial.proofs.WholeRuns.EndedStay.{RowsLater, count_own, counts_rise, same_later}
-use Rattle.fs_serial.proofs.WholeRuns.EndedSteps.{SaysFair, old_ending, old_leading, one_leading, step_fair, taken_down}
+use Rattle.fs_serial.proofs.WholeRuns.EndedSteps.{event_ending, event_fair, event_leading, event_one}
 use Rattle.fs_serial.proofs.WholeRuns.Views.{count_set}
 
 -- ## What is answered
@@ -267,34 +267,16 @@ module _ (skew greatest k : ℕ) (c : Cluster) (s : Server) (at : slice_get c.se
       (later_itself (given_by (counts_of c.servers) (with_all s c)) (with_all s c).rows)
   other_later (event.Move prefix to) there none = move_later prefix to
 
-  arrived_among : (e : ServerEvent) (z : InFlight) → In z (without_arrived k e c.in_flight) → In z c.in_flight
-  arrived_among (event.FromPeer from m) z i = In_without (is_between from k) c.in_flight z i
-  arrived_among (event.FromClient by m) z i = i
-  arrived_among event.Turn z i = i
-  arrived_among (event.Recall field) z i = i
-  arrived_among (event.Move prefix to) z i = i
-
   pub other_fair : EndsFair c → (e : ServerEvent) → IsThere k e c → IsNoneOfLed e → EndsFair (after_step k e (event_step e s) c)
   other_fair f e there none =
       let x : Stepped = event_step e s in
       let leaves : LeavesLed k e s x c = other_leaves skew greatest k c s at h e there none in
-      let left : List InFlight = without_arrived k e c.in_flight in
-      let lines = without_question k e c.lines in
-      let journal = c.journal ++ x.out.admitted in
-      let replied = replies_after e x.out.admitted c.replied in
       let later : RowsLater c (after_step k e x c) = other_later e there none in
-      let clients = taken_client k e c.lines in
-      step_fair skew greatest k c s at h f left lines x.server x.out.send journal replied (record {
+      event_fair skew greatest k c s at h f e x (record {
         later = later;
-        among = arrived_among e;
-        clients = clients;
-        heard = taken_down k e c.lines;
-        leading = λ l i.
-            old_leading skew greatest k c s at h f left lines x.server x.out.send journal replied later clients l (subst (In l) leaves.leading i);
-        before = λ l o i. one_leading skew greatest k c s at h f left lines x.server x.out.send journal replied l o
-            (subst (In l) leaves.leading i);
-        ending = λ y i.
-            old_ending skew greatest k c s at h f left lines x.server x.out.send journal replied later clients y (subst (In y) leaves.ending i);
+        leading = λ l i. event_leading skew greatest k c s at h f e x later l (subst (In l) leaves.leading i);
+        before = λ l o i. event_one skew greatest k c s at h f e x l o (subst (In l) leaves.leading i);
+        ending = λ y i. event_ending skew greatest k c s at h f e x later y (subst (In y) leaves.ending i);
         votes = λ to m i. absurd (vote_told k x.out.send leaves.words to m i);
         answers = λ to z i. absurd (event_free e s none to z i);
       })

@@ -24,6 +24,7 @@ use Rattle.fs_msg.specs.declared.peer_msg.PeerMsg.{PeerMsg}
 use Rattle.fs_msg.specs.declared.peer_msg.PeerMsg.TheVariants as peer
 use Rattle.fs_msg.specs.declared.voted.Voted.{Voted as VotedMsg}
 use Rattle.fs_client.specs.declared.state.Client.{Client}
+use Rattle.fs_server.specs.Server.{Stepped}
 use Rattle.fs_server.specs.declared.event.ServerEvent.{ServerEvent}
 use Rattle.fs_server.specs.declared.event.ServerEvent.TheVariants as event
 use Rattle.fs_server.specs.declared.state.Server.{Server}
@@ -34,7 +35,8 @@ use Rattle.fs_txn.specs.Votes.{Votes}
 use Rattle.fs_txn.specs.declared.leading.Ending.{Ending}
 use Rattle.fs_txn.specs.declared.leading.Leading.{Leading}
 use Rattle.fs_txn.proofs.Keys.{txn_is}
-use Rattle.fs_serial.specs.Cluster.{Cluster, InFlight, Lines, in_flight_from, is_with, with_answer, with_sent, without_arrived, without_first, without_question}
+use Rattle.fs_serial.specs.Cluster.{Cluster, InFlight, Lines, after_step, in_flight_from, is_between, is_with, replies_after}
+use Rattle.fs_serial.specs.Cluster.{with_answer, with_sent, without_arrived, without_first, without_question}
 use Rattle.fs_serial.specs.EndedLeases.{EndsFair, WasEnded}
 use Rattle.fs_serial.specs.Leading.{LedHolds}
 use Rattle.fs_serial.specs.Seen.{ClusterHolds}
@@ -223,3 +225,64 @@ module _ (skew greatest k : ℕ) (c : Cluster) (s : Server) (at : slice_get c.se
             | inr p ↦ q.answers by (led.Ended number end now) p number end now refl
           ];
     }
+
+-- ## An event
+
+arrived_among : (k : ℕ) (e : ServerEvent) (in_flight : List InFlight) (z : InFlight) → In z (without_arrived k e in_flight) → In z in_flight
+arrived_among k (event.FromPeer from m) in_flight z i = In_without (is_between from k) in_flight z i
+arrived_among k e in_flight z i = i
+
+module _ (skew greatest k : ℕ) (c : Cluster) (s : Server) (at : slice_get c.servers k ≡ Some s) (h : ClusterHolds skew greatest c)
+    (f : EndsFair c) (e : ServerEvent) (x : Stepped) where
+  abbrev pub then : Cluster
+  then = after_step k e x c
+
+  abbrev left : List InFlight
+  left = without_arrived k e c.in_flight
+
+  abbrev lines : Session → Lines
+  lines = without_question k e c.lines
+
+  abbrev journal : List Item
+  journal = c.journal ++ x.out.admitted
+
+  abbrev replied : Session → List Item
+  replied = replies_after e x.out.admitted c.replied
+
+  pub event_still : RowsLater c then → (by : Session) (number : LeaseNo) (end now : ℕ) → WasEnded c by number end now
+      → WasEnded then by number end now
+  event_still later = still skew greatest k c s at h f left lines x.server x.out.send journal replied later (taken_client k e c.lines)
+
+  pub event_leading : RowsLater c then → (l : Leading) → In l s.leading → VotesFair then l.leader.session l.leader.votes
+  event_leading later = old_leading skew greatest k c s at h f left lines x.server x.out.send journal replied later (taken_client k e c.lines)
+
+  pub event_ending : RowsLater c then → (y : Ending) → In y s.ending → EndFair then y.session y.end
+  event_ending later = old_ending skew greatest k c s at h f left lines x.server x.out.send journal replied later (taken_client k e c.lines)
+
+  pub event_one : (l o : Leading) → In l s.leading → In o s.leading → l.leader.txn ≡ o.leader.txn → l.leader.session ≡ o.leader.session
+  event_one = one_leading skew greatest k c s at h f left lines x.server x.out.send journal replied
+
+  -- what the step adds is right
+  pub record AddsFair : Type 0 where
+    pub later : RowsLater c then
+    pub leading : (l : Leading) → In l x.server.leading → VotesFair then l.leader.session l.leader.votes
+    pub before : (l o : Leading) → In l x.server.leading → In o s.leading → l.leader.txn ≡ o.leader.txn
+        → l.leader.session ≡ o.leader.session
+    pub ending : (y : Ending) → In y x.server.ending → EndFair then y.session y.end
+    pub votes : (to : ℕ) (m : VotedMsg) → In (OfServer to, msg.Peer (peer.Vote m)) x.out.send → (l : Leading)
+        → led_in then.servers m.txn ≡ Some l → (number : LeaseNo) (end now : ℕ) → m.vote ≡ vote.Ended number end now
+        → WasEnded then l.leader.session number end now
+    pub answers : (to : Session) (z : LedEnd) → In (OfSession to, msg.Answer (answer.Led z)) x.out.send → EndFair then to z
+
+  pub event_fair : AddsFair → EndsFair then
+  event_fair q = step_fair skew greatest k c s at h f left lines x.server x.out.send journal replied (record {
+    later = q.later;
+    among = arrived_among k e c.in_flight;
+    clients = taken_client k e c.lines;
+    heard = taken_down k e c.lines;
+    leading = q.leading;
+    before = q.before;
+    ending = q.ending;
+    votes = q.votes;
+    answers = q.answers;
+  })
