@@ -143,7 +143,7 @@ unchanged s = record {
   rows = relocked_not s.rows;
 }
 
-voted_rows : (v : Vote) (x : Ready) (s : Server) → OnlyRows s (after_vote v x s)
+pub voted_rows : (v : Vote) (x : Ready) (s : Server) → OnlyRows s (after_vote v x s)
 voted_rows vote.Yes x s = record {
   me = refl;
   map = refl;
@@ -159,7 +159,7 @@ voted_rows (vote.Ended l u n) x s = unchanged s
 voted_rows (vote.Moved p to) x s = unchanged s
 voted_rows (vote.PathsOut n) x s = unchanged s
 
-voted_leading : (v : Vote) (x : Ready) (s : Server) → (after_vote v x s).leading ≡ s.leading
+pub voted_leading : (v : Vote) (x : Ready) (s : Server) → (after_vote v x s).leading ≡ s.leading
 voted_leading vote.Yes x s = refl
 voted_leading (vote.Ended l u n) x s = refl
 voted_leading (vote.Moved p to) x s = refl
