@@ -27,3 +27,4 @@ pub mod EndedOthers
 pub mod EndedDecisions
 pub mod EndedLed
 pub mod EndedEvents
+pub mod EndedClients

@@ -75,13 +75,13 @@ use Rattle.fs_serial.proofs.WholeRuns.LedQuestions.{led_there}
 
 -- ## The leader of a transaction
 
-record IsLedAt (servers : List Server) (txn : TxnNo) (l : Leading) : Type 0 where
-  server : Server
-  there : In server servers
-  among : In l server.leading
-  its : l.leader.txn ≡ txn
+pub record IsLedAt (servers : List Server) (txn : TxnNo) (l : Leading) : Type 0 where
+  pub server : Server
+  pub there : In server servers
+  pub among : In l server.leading
+  pub its : l.leader.txn ≡ txn
 
-led_at : (servers : List Server) (txn : TxnNo) (l : Leading) → led_in servers txn ≡ Some l → IsLedAt servers txn l
+pub led_at : (servers : List Server) (txn : TxnNo) (l : Leading) → led_in servers txn ≡ Some l → IsLedAt servers txn l
 led_at servers txn l = by_server (slice_get servers txn.server) refl
   where
     by_server : (o : Option Server) → slice_get servers txn.server ≡ o → leading_of txn (leading_at o) ≡ Some l → IsLedAt servers txn l
