@@ -1,13 +1,11 @@
 -- Every event of a client keeps what is told of leases that had ended right: the session waits until it hears how its operation ended.
-use Rattle.std.proofs.Common.{◌≡◌, ◌==◌, ◌+◌, ◌≤◌, ℕ, Bool, true, false, not, List, [], ◌∷◌, ◌++◌, length, cond, refl, sym, ap, ◌∙◌, subst, inl, inr, arith, length-append}
-use Rattle.std.specs.Prelude.{Option, Some, None, slice_get}
+use Rattle.std.proofs.Common.{◌≡◌, ◌==◌, ◌+◌, ◌≤◌, ℕ, Bool, true, false, not, List, ◌∷◌, ◌++◌, length, cond, refl, sym, ap, ◌∙◌, subst, inl, inr, arith, length-append}
+use Rattle.std.specs.Prelude.{Option, Some, None}
 use Rattle.fs_ident.specs.In.{In}
 use Rattle.fs_ident.specs.declared.actor.LeaseNo.{LeaseNo}
 use Rattle.fs_ident.specs.declared.actor.Session.{Session}
-use Rattle.fs_ident.proofs.Passing.{found}
 use Rattle.fs_ident.proofs.Same.{one_session}
-use Rattle.fs_ident.proofs.Standing.{In-append, In-got, In-mapped}
-use Rattle.fs_field.specs.Table.{same_txn}
+use Rattle.fs_ident.proofs.Standing.{In-append, In-mapped}
 use Rattle.fs_record.specs.declared.led_end.LedEnd.TheVariants as led
 use Rattle.fs_model.specs.declared.op.Op.{Op}
 use Rattle.fs_msg.specs.declared.answer.Answer.{Answer}
@@ -21,7 +19,6 @@ use Rattle.fs_client.specs.declared.led.Led.{Led}
 use Rattle.fs_client.specs.declared.plan.Plan.{Plan}
 use Rattle.fs_client.specs.declared.state.Client.{Client}
 use Rattle.fs_server.specs.declared.state.Server.{Server}
-use Rattle.fs_txn.specs.Leading.{leading_of}
 use Rattle.fs_txn.specs.declared.leading.Leading.{Leading}
 use Rattle.fs_txn.proofs.Keys.{kept_in}
 use Rattle.fs_serial.specs.Cluster.{CanCome, ClientEvent, Cluster, Lines, after_client, after_plan, is_with, without_first}
@@ -30,7 +27,7 @@ use Rattle.fs_serial.specs.EndedLeases.{EndsFair, WasEnded}
 use Rattle.fs_serial.specs.Exchange.{OneExchange, due, is_recall}
 use Rattle.fs_serial.specs.Leading.{IsLedBy, LeadsFor, LeavesLedClient}
 use Rattle.fs_serial.specs.Owed.{ends_in, owed_to}
-use Rattle.fs_serial.specs.Seen.{ClusterHolds, counts_of, world_of}
+use Rattle.fs_serial.specs.Seen.{ClusterHolds}
 use Rattle.fs_serial.specs.World.{pushed}
 use Rattle.fs_serial.proofs.DecidedEffects.OwnApart.{one_each}
 use Rattle.fs_serial.proofs.Lists.Journals.{session_itself}

@@ -1,6 +1,6 @@
 -- Every event of every server keeps what is told of leases that had ended right.
-use Rattle.std.proofs.Common.{◌≡◌, ◌≤◌, ◌==◌, ℕ, ◌+◌, max, true, false, List, [], ◌∷◌, ◌++◌, cond, append-nil, refl, sym, ap, ap₂, ◌∙◌, subst, inl, inr, arith}
-use Rattle.std.specs.Prelude.{Option, Some, None, slice_get, slice_set}
+use Rattle.std.proofs.Common.{◌≡◌, ◌≤◌, ℕ, ◌+◌, max, List, [], ◌∷◌, cond, refl, sym, ap, ◌∙◌, subst, inl, inr, arith}
+use Rattle.std.specs.Prelude.{Option, Some, None, slice_get}
 use Rattle.fs_ident.specs.In.{In}
 use Rattle.fs_ident.specs.declared.actor.LeaseNo.{LeaseNo}
 use Rattle.fs_ident.specs.declared.actor.Peer.{Peer}
@@ -11,7 +11,6 @@ use Rattle.fs_ident.proofs.Passing.{found}
 use Rattle.fs_ident.proofs.Standing.{In-got}
 use Rattle.fs_field.specs.Table.{same_txn}
 use Rattle.fs_field.specs.declared.row.Row.{Row}
-use Rattle.fs_field.specs.declared.used.Part.{Part}
 use Rattle.fs_field.specs.declared.vote.Vote.{Vote}
 use Rattle.fs_field.specs.declared.vote.Vote.TheVariants as vote
 use Rattle.fs_record.specs.declared.led_end.LedEnd.{LedEnd}
@@ -31,9 +30,8 @@ use Rattle.fs_msg.specs.declared.server_note.ServerNote.{ServerNote}
 use Rattle.fs_msg.specs.declared.server_note.ServerNote.TheVariants as note
 use Rattle.fs_msg.specs.declared.voted.Voted.{Voted as VotedMsg}
 use Rattle.fs_server.specs.Counts.{done_step, done_with}
-use Rattle.fs_server.specs.Follows.{after_decision, after_vote, applies, decide_step, prepare_step, ready_of, to_server, vote_here, votes}
+use Rattle.fs_server.specs.Follows.{after_decision, after_vote, applies, decide_step, prepare_step, ready_of, vote_here, votes}
 use Rattle.fs_server.specs.Leads.{lead_refusal, lead_step, leads_unless}
-use Rattle.fs_server.specs.LeadingLaws.{CommitSplits}
 use Rattle.fs_server.specs.Server.{Stepped, begun, strange, to_session}
 use Rattle.fs_server.specs.Step.{event_step, step}
 use Rattle.fs_server.specs.declared.event.ServerEvent.{ServerEvent}
@@ -46,22 +44,20 @@ use Rattle.fs_txn.specs.Ready.{is_awaited, without_prepared}
 use Rattle.fs_txn.specs.Stages.{Wanted}
 use Rattle.fs_txn.specs.declared.leading.Ending.{Ending}
 use Rattle.fs_txn.specs.declared.leading.Leading.{Leading}
-use Rattle.fs_txn.specs.declared.ready.Ready.{Ready}
 use Rattle.fs_txn.proofs.Keys.{txn_is}
-use Rattle.fs_serial.specs.Cluster.{Cluster, InFlight, IsThere, after_server_at, after_step, in_flight_from, is_between, parcels_of, without_first}
+use Rattle.fs_serial.specs.Cluster.{Cluster, IsThere, after_step, in_flight_from, is_between, parcels_of, without_first}
 use Rattle.fs_serial.specs.EndedLeases.{EndsFair, IsFairAbort, WasEnded}
 use Rattle.fs_serial.specs.Leading.{IsLeading}
-use Rattle.fs_serial.specs.Seen.{ClusterHolds, counts_of, given_at}
+use Rattle.fs_serial.specs.Seen.{ClusterHolds}
 use Rattle.fs_serial.specs.Words.{ended_in, key_of, leading_at, led_in}
 use Rattle.fs_serial.proofs.Lists.SetAt.{get_here, set_twice}
-use Rattle.fs_serial.proofs.Lists.Servers.{In_at}
 use Rattle.fs_serial.proofs.Returns.Lapsing.{begun_at, keep, there_begun}
 use Rattle.fs_serial.proofs.Returns.Lapsing as lapsing
 use Rattle.fs_serial.proofs.Transactions.AwaitedWords.{IsAskedBy, IsAwaitedBy, asked_by, decide_awaited, done_awaited, done_is, prepare_awaited, prepare_here}
 use Rattle.fs_serial.proofs.Transactions.Desks.{each_after, led_set}
 use Rattle.fs_serial.proofs.Transactions.OtherSteps.{begins_stands}
 use Rattle.fs_serial.proofs.Transactions.OwnersOfLocks.{in_range}
-use Rattle.fs_serial.proofs.Transactions.PlacesAfter.{AreRelocked, locked_so, relocked_not, unlocked_so, unlocked_unless, word_taken}
+use Rattle.fs_serial.proofs.Transactions.PlacesAfter.{AreRelocked, relocked_not, unlocked_so, unlocked_unless, word_taken}
 use Rattle.fs_serial.proofs.Transactions.Tables.{in_with_ending}
 use Rattle.fs_serial.proofs.Transactions.Undecided.{up_led}
 use Rattle.fs_serial.proofs.WholeRuns.EndedDecisions.{IsRightStep, noted_none}

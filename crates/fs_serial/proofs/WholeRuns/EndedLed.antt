@@ -29,7 +29,6 @@ use Rattle.fs_msg.specs.declared.prepare.Prepare.{Prepare as PrepareMsg}
 use Rattle.fs_msg.specs.declared.server_note.ServerNote.{ServerNote}
 use Rattle.fs_msg.specs.declared.server_note.ServerNote.TheVariants as note
 use Rattle.fs_msg.specs.declared.voted.Voted.{Voted as VotedMsg}
-use Rattle.fs_client.specs.Led.{lead_of}
 use Rattle.fs_client.specs.declared.led.Led.{Led}
 use Rattle.fs_server.specs.Begins.{Round, first_round, leader_with, parts_in, round_of, rounds, txn_of}
 use Rattle.fs_server.specs.Concludes.{waits}
@@ -43,7 +42,6 @@ use Rattle.fs_server.specs.declared.event.ServerEvent.TheVariants as event
 use Rattle.fs_server.specs.declared.state.Server.{Server}
 use Rattle.fs_txn.specs.Leading.{leading_of}
 use Rattle.fs_txn.specs.Votes.{Votes, is_moved, votes_after}
-use Rattle.fs_txn.specs.declared.leading.Ending.{Ending}
 use Rattle.fs_txn.specs.declared.leading.Leading.{Leading}
 use Rattle.fs_serial.specs.Cluster.{Cluster, InFlight, IsThere, after_step, in_flight_from, is_between, parcels_of, without_arrived}
 use Rattle.fs_serial.specs.EndedLeases.{EndsFair, WasEnded}
@@ -63,7 +61,7 @@ use Rattle.fs_serial.proofs.Transactions.Tables.{in_with_leading}
 use Rattle.fs_serial.proofs.Transactions.Undecided.{up_asked, up_led}
 use Rattle.fs_serial.proofs.WholeRuns.EndedDecisions.{IsRightStep, goes_on_fair, noted_none}
 use Rattle.fs_serial.proofs.WholeRuns.EndedStay.{RowsLater, stepped_later}
-use Rattle.fs_serial.proofs.WholeRuns.EndedSteps.{EndFair, VotesFair, event_ending, event_fair, event_leading, event_one, event_still}
+use Rattle.fs_serial.proofs.WholeRuns.EndedSteps.{VotesFair, event_ending, event_fair, event_leading, event_one, event_still}
 use Rattle.fs_serial.proofs.WholeRuns.EndedVotes.{rounds_said, vote_fair}
 use Rattle.fs_serial.proofs.WholeRuns.LedQuestions as questions
 use Rattle.fs_serial.proofs.WholeRuns.LedQuestions.{asks, begun, rounds_relock}
@@ -216,8 +214,7 @@ module _ (skew greatest k : ℕ) (c : Cluster) (s : Server) (at : slice_get c.se
         let x : Stepped = refuses by w s in
         let later : RowsLater c (after_step k asking x c) =
         stepped_later k c (after_step k asking x c) s s at h.places refl (parcels_then k c c.in_flight x.out.send refl refl) refl
-        (relocked_not s.rows) in
-        (
+        (relocked_not s.rows) in (
           event_fair skew greatest k c s at h f asking x (record {
             later = later;
             leading = event_leading skew greatest k c s at h f asking x later;

@@ -1,9 +1,9 @@
 -- A server votes that a lease had ended: it had.
 use mathlib.Core.Path.{fun_ext}
-use Rattle.std.proofs.Common.{◌≡◌, ◌==◌, ℕ, ◌+◌, ◌<◌, ◌≤◌, ◌⊎◌, not, true, false, List, [], ◌∷◌, ◌++◌, cond, map, refl, sym, ap, ap₂, ◌∙◌, subst, inl, inr, arith}
+use Rattle.std.proofs.Common.{◌≡◌, ℕ, ◌+◌, ◌<◌, ◌≤◌, ◌⊎◌, not, true, false, List, [], ◌∷◌, cond, map, refl, sym, ap, ap₂, ◌∙◌, subst, inl, inr, arith}
 use Rattle.std.proofs.lemmas.Bool.{ltb-true, ltb-false}
 use Rattle.std.specs.Prelude.{◌≢◌, ◌||◌, Bool, Option, Some, None, nat_lt, slice_get}
-use Rattle.std.specs.List.{find, list_any}
+use Rattle.std.specs.List.{find}
 use Rattle.fs_ident.specs.Ident.{same}
 use Rattle.fs_ident.specs.In.{In}
 use Rattle.fs_ident.specs.declared.actor.LeaseNo.{LeaseNo}
@@ -11,7 +11,7 @@ use Rattle.fs_ident.specs.declared.actor.Session.{Session}
 use Rattle.fs_ident.specs.declared.actor.TxnNo.{TxnNo}
 use Rattle.fs_ident.proofs.Booleans.{denied}
 use Rattle.fs_ident.proofs.Passing.{found}
-use Rattle.fs_ident.proofs.Same.{itself, same_is}
+use Rattle.fs_ident.proofs.Same.{same_is}
 use Rattle.fs_ident.proofs.Standing.{In-append, In-filter, In-got, In-map}
 use Rattle.fs_field.specs.Field.{file_of}
 use Rattle.fs_field.specs.Table.{is_lease}
@@ -42,7 +42,7 @@ use Rattle.fs_serial.specs.Locks.{IsRelock}
 use Rattle.fs_serial.specs.Owed.{ends_in}
 use Rattle.fs_serial.specs.Parts.{SessionFits}
 use Rattle.fs_serial.specs.Refusals.{rows_in}
-use Rattle.fs_serial.specs.Seen.{ClusterHolds, counts_of, given_at, world_of}
+use Rattle.fs_serial.specs.Seen.{ClusterHolds, given_at, world_of}
 use Rattle.fs_serial.specs.Sight.{IsGiven}
 use Rattle.fs_serial.specs.World.{settled_at, sight_in}
 use Rattle.fs_serial.proofs.Grants.OneLease.{lease_is}
