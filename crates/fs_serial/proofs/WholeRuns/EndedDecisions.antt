@@ -135,7 +135,8 @@ module _ (skew greatest k : ℕ) (c : Cluster) (s : Server) (at : slice_get c.se
 
   pub end_right : EndFair then l.leader.session (end_of_decision d)
   end_right number end now e =
-      old_leading skew greatest k c s at h f c.in_flight c.lines x.server x.out.send journal replied later (λ y. refl) l there number end now
+      old_leading skew greatest k c s at h f c.in_flight c.lines x.server x.out.send journal replied later (λ y. refl) l there
+      number end now
       (decision_names l.leader number end now e)
 
   pub concluded_fair : EndsFair then

@@ -76,8 +76,8 @@ recalls_free ms are to e i =
     recall_free (OfSession to, msg.Answer (answer.Led e)) (are (OfSession to, msg.Answer (answer.Led e)) i) to (answer.Led e) refl refl
 
 -- one answer of another kind, and recalls behind it
-one_free : (by : Session) (a : Answer) (rest : List (Peer × Msg)) → ((m : Peer × Msg) → In m rest → IsRecallTo m) → (to : Session) (e : LedEnd)
-    → (answer.Led e ≡ a → ⊥) → TellsEnd to e (to_session by a ∷ rest) → ⊥
+one_free : (by : Session) (a : Answer) (rest : List (Peer × Msg)) → ((m : Peer × Msg) → In m rest → IsRecallTo m)
+    → (to : Session) (e : LedEnd) → (answer.Led e ≡ a → ⊥) → TellsEnd to e (to_session by a ∷ rest) → ⊥
 one_free by a rest are to e other (inl q) =
     let same : msg.Answer (answer.Led e) ≡ msg.Answer a = ap (λ (p : Peer × Msg). p.1) q in
     let is : answer.Led e ≡ a = cc in
@@ -87,7 +87,8 @@ one_free by a rest are to e other (inr i) = recalls_free rest are to e i
 ship_free : (by : Session) (entries : List Entry) (s : Server) (b : Bool) (to : Session) (e : LedEnd)
     → TellsEnd to e (cond b (shipped by (ship_from by entries s [])) (strange s)).out.send → ⊥
 ship_free by entries s true to e i =
-    let x = ship_from by entries s [] in one_free by (answer.Shipped (length x.admitted) x.end) [] (λ m j. absurd j) to e (λ q. absurd (cc q)) i
+    let x = ship_from by entries s [] in
+    one_free by (answer.Shipped (length x.admitted) x.end) [] (λ m j. absurd j) to e (λ q. absurd (cc q)) i
 ship_free by entries s false to e i = i
 
 message_free : (by : Session) (m : ClientMsg) (s : Server) → IsNoneOfLed (event.FromClient by m) → (to : Session) (e : LedEnd)
@@ -199,7 +200,8 @@ vote_told k ms none to m i =
 -- ## Rows
 
 message_later : (o : Counts) (by : Session) (m : ClientMsg) (t : Server) → IsOther (event.FromClient by m)
-    → IsLater (given_by o t) (given_by o (event_step (event.FromClient by m) t).server) t.rows (event_step (event.FromClient by m) t).server.rows
+    → IsLater (given_by o t) (given_by o (event_step (event.FromClient by m) t).server) t.rows
+    (event_step (event.FromClient by m) t).server.rows
 message_later o by (Ask items dir) t other = (asked_same by items dir t).later o
 message_later o by (Renew pairs) t other = renewed_later (given_by o t) (end_of t) (numbers_in (pairs_here t pairs)) t.rows
 message_later o by (Release pairs) t other = released_later (given_by o t) (numbers_in (pairs_here t pairs)) t.rows
@@ -226,7 +228,8 @@ module _ (skew greatest k : ℕ) (c : Cluster) (s : Server) (at : slice_get c.se
 
   -- what comes of the event at the server that has all
   seen_later : (e : ServerEvent) (small big : Stepped) → IsSameStep k e s small big c
-      → IsLater (given_by (counts_of c.servers) (with_all s c)) (given_by (counts_of c.servers) big.server) (with_all s c).rows big.server.rows
+      → IsLater (given_by (counts_of c.servers) (with_all s c)) (given_by (counts_of c.servers) big.server)
+      (with_all s c).rows big.server.rows
       → RowsLater c (after_step k e small c)
   seen_later e small big same later = record {
     given = λ j.

@@ -28,7 +28,8 @@ server_right : (skew greatest now k : ℕ) (e : ServerEvent) (s : Server) (c : C
     → max s.last now ≤ greatest → greatest ≤ max s.last now + skew → IsThere k e c → ClusterHolds skew greatest c → EndsFair c
     → EndsFair (after_server now k e c) × IsFairAbort (after_server now k e c) (step s now e).out.note
 server_right skew greatest now k e s c at before within there h f =
-    subst (λ (o : Option Server). EndsFair (after_server_at o now k e c) × IsFairAbort (after_server_at o now k e c) (step s now e).out.note)
+    subst (λ (o : Option Server).
+    EndsFair (after_server_at o now k e c) × IsFairAbort (after_server_at o now k e c) (step s now e).out.note)
     (sym at) (server_keeps_fair skew greatest now k e s c at before within there h f)
 
 pub server_fair : (skew greatest now k : ℕ) (e : ServerEvent) (s : Server) (c : Cluster) → slice_get c.servers k ≡ Some s
@@ -78,7 +79,8 @@ at_server skew greatest now k e c (Some s) at h f there within =
 
 event_right : (skew greatest now : ℕ) (e : ClusterEvent) (c : Cluster) → ClusterHolds skew greatest c → EndsFair c → CanHappen e c
     → greatest ≤ now + skew → EndsFair (after_event now e c)
-event_right skew greatest now (AtServer k e) c h f can within = at_server skew greatest now k e c (slice_get c.servers k) refl h f can within
+event_right skew greatest now (AtServer k e) c h f can within =
+    at_server skew greatest now k e c (slice_get c.servers k) refl h f can within
 event_right skew greatest now (AtClient by e) c h f can within = client_keeps_fair skew greatest now c by h f e can
 
 pub run_fair : (skew greatest : ℕ) (es : List Dated) (c : Cluster) → ClusterHolds skew greatest c → EndsFair c → IsRun skew greatest es c

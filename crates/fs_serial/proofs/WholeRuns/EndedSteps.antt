@@ -100,7 +100,8 @@ pub record HasLeader (servers : List Server) (m : VotedMsg) : Type 0 where
   pub leading : Leading
   pub is : led_in servers m.txn ≡ Some leading
 
-pub vote_led : (c : Cluster) → LedHolds c → (f : InFlight) → In f c.in_flight → (m : VotedMsg) → f.message ≡ peer.Vote m → HasLeader c.servers m
+pub vote_led : (c : Cluster) → LedHolds c → (f : InFlight) → In f c.in_flight → (m : VotedMsg) → f.message ≡ peer.Vote m
+    → HasLeader c.servers m
 vote_led c held f i m e =
     let key : Key = key_of m.txn m.number in
     let told : Told = told_with f.from f.to (key, Voted m.vote) in
@@ -150,8 +151,8 @@ module _ (skew greatest k : ℕ) (c : Cluster) (s : Server) (at : slice_get c.se
   same_led clients y = ap (λ (z : Client). z.led) (sent_client k ms lines y ∙ clients y)
 
   -- what was right is right
-  pub still : RowsLater c stepped → ((y : Session) → (lines y).client ≡ (c.lines y).client) → (by : Session) (number : LeaseNo) (end now : ℕ)
-      → WasEnded c by number end now → WasEnded stepped by number end now
+  pub still : RowsLater c stepped → ((y : Session) → (lines y).client ≡ (c.lines y).client) → (by : Session)
+      (number : LeaseNo) (end now : ℕ) → WasEnded c by number end now → WasEnded stepped by number end now
   still later clients by number end now = ended_stays c stepped by number end now later (same_led clients by)
 
   -- what stays of its tables
@@ -252,7 +253,8 @@ module _ (skew greatest k : ℕ) (c : Cluster) (s : Server) (at : slice_get c.se
   event_still later = still skew greatest k c s at h f left lines x.server x.out.send journal replied later (taken_client k e c.lines)
 
   pub event_leading : RowsLater c then → (l : Leading) → In l s.leading → VotesFair then l.leader.session l.leader.votes
-  event_leading later = old_leading skew greatest k c s at h f left lines x.server x.out.send journal replied later (taken_client k e c.lines)
+  event_leading later = old_leading skew greatest k c s at h f left lines x.server x.out.send journal replied later
+      (taken_client k e c.lines)
 
   pub event_ending : RowsLater c then → (y : Ending) → In y s.ending → EndFair then y.session y.end
   event_ending later = old_ending skew greatest k c s at h f left lines x.server x.out.send journal replied later (taken_client k e c.lines)

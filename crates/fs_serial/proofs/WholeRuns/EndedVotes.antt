@@ -1,6 +1,7 @@
 -- A server votes that a lease had ended: it had.
 use mathlib.Core.Path.{fun_ext}
-use Rattle.std.proofs.Common.{◌≡◌, ℕ, ◌+◌, ◌<◌, ◌≤◌, ◌⊎◌, not, true, false, List, [], ◌∷◌, cond, map, refl, sym, ap, ap₂, ◌∙◌, subst, inl, inr, arith}
+use Rattle.std.proofs.Common.{◌≡◌, ℕ, ◌+◌, ◌<◌, ◌≤◌, ◌⊎◌, not, true, false, List, [], ◌∷◌, cond, map, refl, sym, ap, ap₂, ◌∙◌, subst, inl}
+use Rattle.std.proofs.Common.{inr, arith}
 use Rattle.std.proofs.lemmas.Bool.{ltb-true, ltb-false}
 use Rattle.std.specs.Prelude.{◌≢◌, ◌||◌, Bool, Option, Some, None, nat_lt, slice_get}
 use Rattle.std.specs.List.{find}
@@ -86,8 +87,8 @@ voted_gone : (s : Server) (by : Session) (p : Part) (number : LeaseNo) (end now 
     → IsFirstGone s by p number end now
 voted_gone s by p number end now = by_file (is_mine s p.file) refl
   where
-    by_use : (o : Option Use) → first_gone s.rows by p.uses ≡ o → is_mine s p.file ≡ true → vote_by o None s.last ≡ vote.Ended number end now
-        → IsFirstGone s by p number end now
+    by_use : (o : Option Use) → first_gone s.rows by p.uses ≡ o → is_mine s p.file ≡ true
+        → vote_by o None s.last ≡ vote.Ended number end now → IsFirstGone s by p number end now
     by_use (Some u) e mine h = record { mine = mine; used = u; first = e; no = cc; until = cc; reading = cc }
     by_use None e mine h = absurd (cc h)
 
@@ -110,7 +111,8 @@ module _ (skew greatest k : ℕ) (c : Cluster) (s : Server) (at : slice_get c.se
   fits : SessionFits s.skew greatest (sight_in (world_of s c)) by (settled_at by (ends_in c by))
   fits = (h.parts s here).0.all.fitting by
 
-  given_there : (number : LeaseNo) → IsGiven (sight_in (world_of s c)).given number → number.count ≤ given_at (slice_get c.servers number.server)
+  given_there : (number : LeaseNo) → IsGiven (sight_in (world_of s c)).given number
+      → number.count ≤ given_at (slice_get c.servers number.server)
   given_there number few = subst (λ n. number.count ≤ n) (count_own c.servers k s at (h.places.numbered k s at) number.server) few
 
   module _ (p : Part) (i : In p (parts_in (lead_of d))) (number : LeaseNo) (end now : ℕ) (gone : IsFirstGone s by p number end now) where
@@ -159,7 +161,8 @@ module _ (skew greatest k : ℕ) (c : Cluster) (s : Server) (at : slice_get c.se
       had = record { used = of_part.0; gone = none; ended = subst (λ n. u.until ≤ n) gone.reading over };
       given =
           let l = its.held d.entry (inl refl) u of_part.0 in
-          given_there number (subst (λ (n : LeaseNo). IsGiven (sight_in (world_of s c)).given n) (l.number ∙ gone.no) (fits.given l.lease l.held));
+          given_there number (subst (λ (n : LeaseNo). IsGiven (sight_in (world_of s c)).given n) (l.number ∙ gone.no)
+          (fits.given l.lease l.held));
     }
 
   -- its vote on a part of the operation is right
