@@ -44,13 +44,10 @@ use Rattle.fs_serial.proofs.Transactions.RoundsStages.{rounds_lines, rounds_serv
 use Rattle.fs_serial.proofs.WholeRuns.Addressing.{taken_addressed}
 use Rattle.fs_serial.proofs.WholeRuns.LedEnds.{asked_then}
 use Rattle.fs_serial.proofs.WholeRuns.LedEvents.{goes_on_keeps}
-use Rattle.fs_serial.proofs.WholeRuns.LedKept.{all_keep_led}
+use Rattle.fs_serial.proofs.WholeRuns.LedKept.{all_keep_led, led_op}
 use Rattle.fs_serial.proofs.WholeRuns.LedWorlds.{quiet_stands}
 use Rattle.fs_serial.specs.World.{World, settled_at, sight_in}
-use Rattle.fs_model.specs.declared.op.Op.{Op}
 use Rattle.fs_model.specs.declared.op.Op.TheVariants as op
-use Rattle.fs_model.specs.declared.reply.Reply.{Reply}
-use Rattle.fs_client.specs.Led as client
 use Rattle.fs_client.specs.declared.led.Led.{Led}
 
 -- ## What the rounds send
@@ -98,12 +95,6 @@ rounds_relock txn number by (p ∷ ps) r rows q = rounds_relock txn (number + 1)
 
 -- ## The question
 
--- a server leads what a client asks it to
-asked_as : (o : Op) (r : Reply) → client.is_led o r ≡ true → is_led o ≡ true
-asked_as (op.Delete dir name) r h = refl
-asked_as (op.Rename sdir sname ddir dname) r h = refl
-asked_as o r h = absurd (cc)
-
 module _ (skew greatest k : ℕ) (c : Cluster) (s : Server) (at : slice_get c.servers k ≡ Some s) (h : ClusterHolds skew greatest c)
     (splits : CommitSplits) (by : Session) (m : ToLead) (comes : IsThere k (event.FromClient by (Lead m)) c) where
   abbrev pub e : ServerEvent
@@ -117,7 +108,7 @@ module _ (skew greatest k : ℕ) (c : Cluster) (s : Server) (at : slice_get c.se
       let up : (ends_in c by).up ≡ Lead m ∷ [] = asked_up k by (Lead m) c.servers c.lines comes (ones skew greatest k c s at h by) in
       let l : Led = (to_lead greatest w by m up now.0).led in
       let stands : LedStands s.skew greatest (sight_in w) by (settled_at by (w.ends by)) l = led_stands greatest w by m up now.0 in
-      ap (λ (n : ToLead). is_led n.op) (to_lead greatest w by m up now.0).told ∙ asked_as l.entry.op l.entry.reply stands.leads
+      ap (λ (n : ToLead). is_led n.op) (to_lead greatest w by m up now.0).told ∙ led_op l.entry.op l.entry.reply stands.leads
 
   abbrev pub r : Round
   r = round_of by m s
