@@ -20,3 +20,11 @@ pub mod BegunEvents
 pub mod FairRefusals
 pub mod Strange
 pub mod AnyReadings
+pub mod EndedStay
+pub mod EndedVotes
+pub mod EndedSteps
+pub mod EndedOthers
+pub mod EndedDecisions
+pub mod EndedLed
+pub mod EndedEvents
+pub mod EndedClients

@@ -28,3 +28,4 @@ pub mod Owed
 pub mod Seen
 pub mod Runs
 pub mod Refusals
+pub mod EndedLeases

@@ -110,7 +110,7 @@ module _ (o : Counts) (skew greatest : ℕ) (journal : List Item) (replied : Ses
       (λ f x xs s admitted blockers r number held p gone h. p (λ y i. gone y (inr i)) h)
 
 -- no row is new
-later_reaped : (o : Counts) (s t : Server) → t ≡ record s { reaps = t.reaps; records = t.records } → IsLater (given_by o s) (given_by o t) s.rows t.rows
+pub later_reaped : (o : Counts) (s t : Server) → t ≡ record s { reaps = t.reaps; records = t.records } → IsLater (given_by o s) (given_by o t) s.rows t.rows
 later_reaped o s t q = subst (λ t. IsLater (given_by o s) (given_by o t) s.rows t.rows) (sym q) (later_itself (given_by o s) s.rows)
 
 -- ## The turn

@@ -44,13 +44,13 @@ pub record IsWaiting (c d : Client) : Type 0 where
   pub led : d.led ≡ c.led
   pub exchange : d.exchange ≡ c.exchange
 
-act_waits : (c : Client) (now : ℕ) (o : Op) (l : Led) → c.led ≡ Some l → IsWaiting c (committed (act_plan c now o).ready c)
+pub act_waits : (c : Client) (now : ℕ) (o : Op) (l : Led) → c.led ≡ Some l → IsWaiting c (committed (act_plan c now o).ready c)
 act_waits c now o l h = elim c.over as (λ x. IsWaiting c (committed (act_on x o (begun now c)).ready c)) [
   | Some n ↦ record { led = refl; exchange = refl }
   | None ↦ subst (λ x. IsWaiting c (committed (unless_led x o (begun now c)).ready c)) (sym h) (record { led = refl; exchange = refl })
 ]
 
-turn_waits : (c : Client) (now : ℕ) (x : Exchange) → c.exchange ≡ Some x → IsWaiting c (committed (turn_plan c now).ready c)
+pub turn_waits : (c : Client) (now : ℕ) (x : Exchange) → c.exchange ≡ Some x → IsWaiting c (committed (turn_plan c now).ready c)
 turn_waits c now x h =
     subst (λ b. IsWaiting c (committed (cond b (idle (begun now c)) (turn_free (begun now c))).ready c)) (sym (ap is_some h))
     (record { led = refl; exchange = refl })

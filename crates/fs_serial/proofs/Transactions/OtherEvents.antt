@@ -260,12 +260,9 @@ module _ (skew greatest k : ℕ) (c : Cluster) (s : Server) (at : slice_get c.se
       (In-filter_map (λ (f : InFlight). parcel_in f.message) (record { from = from; to = k; message = peer.Parcel p }) p c.in_flight
       (found (is_between from k) c.in_flight (record { from = from; to = k; message = peer.Parcel p }) there).0 refl)).unlocked
 
-  pub parcel_event : (from : ℕ) (p : Parcel) → IsThere k (event.FromPeer from (peer.Parcel p)) c
-      → ClusterHolds skew greatest
-      (after_step k (event.FromPeer from (peer.Parcel p)) (event_step (event.FromPeer from (peer.Parcel p)) s) c)
-  parcel_event from p there =
-      let e : ServerEvent = event.FromPeer from (peer.Parcel p) in
-      let x : Stepped = only_noted (note.Installs p.prefix) (installed p s) in
+  -- it fits
+  pub parcel_fits : (from : ℕ) (p : Parcel) → IsThere k (event.FromPeer from (peer.Parcel p)) c → fits_here p s ≡ true
+  parcel_fits from p there =
       let stand : RowsStand (count_with s.me s.given (counts_of c.servers).given) (records_in c) (rows_in c) = record {
         apart = now.0.all.servers.apart;
         promises = subst (λ (f : Selves). KeptPromises f (rows_in c))
@@ -273,8 +270,15 @@ module _ (skew greatest k : ℕ) (c : Cluster) (s : Server) (at : slice_get c.se
         counted = now.0.all.kept.counted;
         given = now.0.all.kept.given;
       } in
-      let fits : fits_here p s ≡ true = parcel_stands k from c s p at h.places there (counts_of c.servers) stand in
-      let is : x ≡ event_step e s = ap (λ b. parcel_at b p s) (sym fits) in
+      parcel_stands k from c s p at h.places there (counts_of c.servers) stand
+
+  pub parcel_event : (from : ℕ) (p : Parcel) → IsThere k (event.FromPeer from (peer.Parcel p)) c
+      → ClusterHolds skew greatest
+      (after_step k (event.FromPeer from (peer.Parcel p)) (event_step (event.FromPeer from (peer.Parcel p)) s) c)
+  parcel_event from p there =
+      let e : ServerEvent = event.FromPeer from (peer.Parcel p) in
+      let x : Stepped = only_noted (note.Installs p.prefix) (installed p s) in
+      let is : x ≡ event_step e s = ap (λ b. parcel_at b p s) (sym (parcel_fits from p there)) in
       let same = arriving_same k from c s p at h.places there in
       subst (λ (y : Stepped). ClusterHolds skew greatest (after_step k e y c)) is
       (moved_stands e there x (install_quiet p s)
@@ -282,6 +286,22 @@ module _ (skew greatest k : ℕ) (c : Cluster) (s : Server) (at : slice_get c.se
       refl (λ y. refl) same.0 same.1 (arriving_places k from c s p at h.places there)
       (subst (λ (y : Stepped). AreDue k y.out.send (λ z. asked_server (without_question k e c.lines z).client.exchange)) (sym is)
       (answers_due e refl there)))
+
+  -- ## What stays of transactions
+
+  unlocked_by : (e : ServerEvent) → IsThere k e c → IsNoneOfLed e → IsUnlocked e s
+  unlocked_by (event.FromClient by m) there none = unlocked by m there
+  unlocked_by (event.FromPeer from (peer.Parcel p)) there none = parcel_unlocked from p there
+  unlocked_by (event.FromPeer from (peer.Prepare m)) there none = tt
+  unlocked_by (event.FromPeer from (peer.Vote m)) there none = tt
+  unlocked_by (event.FromPeer from (peer.Decide m)) there none = tt
+  unlocked_by (event.FromPeer from (peer.Done m)) there none = tt
+  unlocked_by event.Turn there none = tt
+  unlocked_by (event.Recall field) there none = tt
+  unlocked_by (event.Move prefix to) there none = tt
+
+  pub other_leaves : (e : ServerEvent) → IsThere k e c → IsNoneOfLed e → LeavesLed k e s (event_step e s) c
+  other_leaves e there none = event_leaves k s c e there none (unlocked_by e there none)
 
   -- ## All of them
 

@@ -82,10 +82,10 @@ left_again l xs =
 module _ (skew greatest k : ℕ) (c : Cluster) (s : Server) (at : slice_get c.servers k ≡ Some s) (e : ServerEvent) (tells : TellsItems e)
     (splits : CommitSplits) where
   module _ (n : ServerNote) (l : Leading) (sent : List (Peer × Msg)) (t : Server) where
-    abbrev first : Stepped
+    abbrev pub first : Stepped
     first = waits n l sent t
 
-    abbrev behind : Cluster
+    abbrev pub behind : Cluster
     behind = after_step k e first c
 
     abbrev last : Stepped
@@ -97,7 +97,7 @@ module _ (skew greatest k : ℕ) (c : Cluster) (s : Server) (at : slice_get c.se
     same_server : last.server ≡ both.server
     same_server = ap (λ (ls : List Leading). let z : Server = record (both.server) { leading = ls } in z) (left_again l t.leading)
 
-    same_cluster : after_concluded k l first.server behind ≡ after_step k e both c
+    pub same_cluster : after_concluded k l first.server behind ≡ after_step k e both c
     same_cluster = alike
         (set_twice c.servers k first.server last.server ∙ ap (slice_set c.servers k) same_server)
         (append_assoc (without_arrived k e c.in_flight) (in_flight_from k sent) (in_flight_from k last.out.send)
@@ -143,7 +143,7 @@ unchanged s = record {
   rows = relocked_not s.rows;
 }
 
-voted_rows : (v : Vote) (x : Ready) (s : Server) → OnlyRows s (after_vote v x s)
+pub voted_rows : (v : Vote) (x : Ready) (s : Server) → OnlyRows s (after_vote v x s)
 voted_rows vote.Yes x s = record {
   me = refl;
   map = refl;
@@ -159,7 +159,7 @@ voted_rows (vote.Ended l u n) x s = unchanged s
 voted_rows (vote.Moved p to) x s = unchanged s
 voted_rows (vote.PathsOut n) x s = unchanged s
 
-voted_leading : (v : Vote) (x : Ready) (s : Server) → (after_vote v x s).leading ≡ s.leading
+pub voted_leading : (v : Vote) (x : Ready) (s : Server) → (after_vote v x s).leading ≡ s.leading
 voted_leading vote.Yes x s = refl
 voted_leading (vote.Ended l u n) x s = refl
 voted_leading (vote.Moved p to) x s = refl

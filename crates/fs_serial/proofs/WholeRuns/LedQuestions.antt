@@ -56,7 +56,7 @@ use Rattle.fs_client.specs.declared.led.Led.{Led}
 -- ## What the rounds send
 
 -- words to other servers, none of which hands anything over or decides anything
-abbrev IsAsking : ℕ → ℕ → List (Peer × Msg) → Type 0
+abbrev pub IsAsking : ℕ → ℕ → List (Peer × Msg) → Type 0
 IsAsking k servers ms =
     AreWords servers ms × ((parcels_of (in_flight_from k ms) ≡ []) × ((ss : List Server) → decided_among ss (in_flight_from k ms) ≡ []))
 
@@ -87,7 +87,7 @@ rounds_ask k servers txn number by (p ∷ ps) r named q = rounds_ask k servers t
       | false ↦ asks_more k servers (server_of r.server.map p.file) txn number by p r.send (named p.file) q
     ])
 
-rounds_relock : (txn : TxnNo) (number : ℕ) (by : Session) (ps : List Part) (r : Round) (rows : List Row) → AreRelocked rows r.server.rows
+pub rounds_relock : (txn : TxnNo) (number : ℕ) (by : Session) (ps : List Part) (r : Round) (rows : List Row) → AreRelocked rows r.server.rows
     → AreRelocked rows (rounds txn number by ps r).server.rows
 rounds_relock txn number by [] r rows q = q
 rounds_relock txn number by (p ∷ ps) r rows q = rounds_relock txn (number + 1) by ps (part_round txn number by p r) rows
@@ -106,7 +106,7 @@ asked_as o r h = absurd (cc)
 
 module _ (skew greatest k : ℕ) (c : Cluster) (s : Server) (at : slice_get c.servers k ≡ Some s) (h : ClusterHolds skew greatest c)
     (splits : CommitSplits) (by : Session) (m : ToLead) (comes : IsThere k (event.FromClient by (Lead m)) c) where
-  abbrev e : ServerEvent
+  abbrev pub e : ServerEvent
   e = event.FromClient by (Lead m)
 
   -- what is asked for is a delete or a rename
@@ -119,26 +119,26 @@ module _ (skew greatest k : ℕ) (c : Cluster) (s : Server) (at : slice_get c.se
       let stands : LedStands s.skew greatest (sight_in w) by (settled_at by (w.ends by)) l = led_stands greatest w by m up now.0 in
       ap (λ (n : ToLead). is_led n.op) (to_lead greatest w by m up now.0).told ∙ asked_as l.entry.op l.entry.reply stands.leads
 
-  abbrev r : Round
+  abbrev pub r : Round
   r = round_of by m s
 
-  abbrev new : Leading
+  abbrev pub new : Leading
   new = record { leader = leader_with (txn_of s) by m r.votes; at = r.at }
 
-  abbrev first : Stepped
+  abbrev pub first : Stepped
   first = waits (note.Prepares (txn_of s)) new r.send r.server
 
-  left : r.server ≡ (let z : Server = record s { txns = s.txns + 1; rows = r.server.rows } in z)
+  pub left : r.server ≡ (let z : Server = record s { txns = s.txns + 1; rows = r.server.rows } in z)
   left = rounds_server (txn_of s) 0 by (parts_in m) (first_round s)
 
-  asks : IsAsking k (length c.servers) r.send
+  pub asks : IsAsking k (length c.servers) r.send
   asks = rounds_ask k (length c.servers) (txn_of s) 0 by (parts_in m) (first_round s) (h.places.named s (In-got c.servers k s at))
       (no_words (length c.servers), (refl, λ ss. refl))
 
   still : with_sent k r.send (without_question k e c.lines) ≡ without_question k e c.lines
   still = rounds_lines k (txn_of s) 0 by (parts_in m) (first_round s) (without_question k e c.lines) refl
 
-  begun : lead_refusal s m ≡ None → ClusterHolds skew greatest (after_step k e first c)
+  pub begun : lead_refusal s m ≡ None → ClusterHolds skew greatest (after_step k e first c)
   begun accepted =
       quiet_stands skew greatest k c s first.server at h c.in_flight r.send (with_sent k r.send (without_question k e c.lines)) (record {
         rows = record {

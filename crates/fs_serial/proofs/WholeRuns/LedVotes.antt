@@ -45,7 +45,7 @@ use Rattle.fs_serial.proofs.WholeRuns.LedWorlds.{quiet_stands, undecided_taken}
 
 module _ (skew greatest k : ℕ) (c : Cluster) (s : Server) (at : slice_get c.servers k ≡ Some s) (h : ClusterHolds skew greatest c)
     (splits : CommitSplits) (from : ℕ) (m : VotedMsg) (comes : IsThere k (event.FromPeer from (peer.Vote m)) c) where
-  abbrev e : ServerEvent
+  abbrev pub e : ServerEvent
   e = event.FromPeer from (peer.Vote m)
 
   abbrev f : InFlight
@@ -54,10 +54,10 @@ module _ (skew greatest k : ℕ) (c : Cluster) (s : Server) (at : slice_get c.se
   here : In s c.servers
   here = In-got c.servers k s at
 
-  q : IsAwaited s m
+  pub q : IsAwaited s m
   q = vote_awaited k from c s at h.led m comes
 
-  abbrev l : Leading
+  abbrev pub l : Leading
   l = q.leading
 
   -- it waits then
@@ -97,12 +97,17 @@ module _ (skew greatest k : ℕ) (c : Cluster) (s : Server) (at : slice_get c.se
         }) led
 
   -- a vote that is no move is counted
+  pub counted_waits : is_moved m.vote ≡ false
+      → ClusterHolds skew greatest (after_step k e (waits (note.Waits l.leader.txn) (with_vote m.number m.vote l) [] s) c)
+  counted_waits stays =
+      waits_stands (votes_after l.leader.votes m.number m.vote) l.at s.rows (relocked_not s.rows) (note.Waits l.leader.txn) []
+      (no_words (length c.servers)) refl (λ ss. refl) refl
+      ((all_keep_led skew greatest k c s at h).counted from m comes l (note.Waits l.leader.txn) q.led q.awaited stays)
+
   counted : is_moved m.vote ≡ false → ClusterHolds skew greatest (after_step k e (counts m.number m.vote l s) c)
   counted stays =
       goes_on_keeps skew greatest k c s at e (λ items replied. refl) splits (note.Waits l.leader.txn) (with_vote m.number m.vote l) [] s
-      (waits_stands (votes_after l.leader.votes m.number m.vote) l.at s.rows (relocked_not s.rows) (note.Waits l.leader.txn) []
-      (no_words (length c.servers)) refl (λ ss. refl) refl
-      ((all_keep_led skew greatest k c s at h).counted from m comes l (note.Waits l.leader.txn) q.led q.awaited stays))
+      (counted_waits stays)
 
   module _ (p : Part) (part : slice_get l.leader.parts m.number ≡ Some p) (moved : is_moved m.vote ≡ true) where
     sought : (to : ℕ) → (to == s.me) ≡ false → to < length c.servers
@@ -114,16 +119,24 @@ module _ (skew greatest k : ℕ) (c : Cluster) (s : Server) (at : slice_get c.se
         (record { there = below; names = tt; word = refl })) refl (λ ss. refl) refl
         ((all_keep_led skew greatest k c s at h).sought from m comes l p to q.led q.awaited moved part off)
 
+    abbrev pub own_vote : Vote
+    own_vote = vote_here s l.leader.session p
+
+    pub own_waits : is_mine s p.file ≡ true → ClusterHolds skew greatest (after_step k e
+        (waits (note.Waits l.leader.txn) (with_vote m.number own_vote (asked_at m.number s.me l)) []
+        (after_own_vote l.leader.txn p own_vote s)) c)
+    own_waits mine =
+        let v : Vote = own_vote in
+        waits_stands (votes_after l.leader.votes m.number v) (slice_set l.at m.number s.me)
+        (after_own_vote l.leader.txn p v s).rows (voted_so v l.leader.txn p.uses s.rows) (note.Waits l.leader.txn) []
+        (no_words (length c.servers)) refl (λ ss. refl) refl
+        ((all_keep_led skew greatest k c s at h).own from m comes l p (note.Waits l.leader.txn) q.led q.awaited moved part mine)
+
     own : is_mine s p.file ≡ true
         → ClusterHolds skew greatest (after_step k e (counts_own m.number p (vote_here s l.leader.session p) l s) c)
     own mine =
-        let v : Vote = vote_here s l.leader.session p in
         goes_on_keeps skew greatest k c s at e (λ items replied. refl) splits (note.Waits l.leader.txn)
-        (with_vote m.number v (asked_at m.number s.me l)) [] (after_own_vote l.leader.txn p v s)
-        (waits_stands (votes_after l.leader.votes m.number v) (slice_set l.at m.number s.me)
-        (after_own_vote l.leader.txn p v s).rows (voted_so v l.leader.txn p.uses s.rows) (note.Waits l.leader.txn) []
-        (no_words (length c.servers)) refl (λ ss. refl) refl
-        ((all_keep_led skew greatest k c s at h).own from m comes l p (note.Waits l.leader.txn) q.led q.awaited moved part mine))
+        (with_vote m.number own_vote (asked_at m.number s.me l)) [] (after_own_vote l.leader.txn p own_vote s) (own_waits mine)
 
     home : (b : Bool) → is_mine s p.file ≡ b → ClusterHolds skew greatest (after_step k e
         (cond b (counts_own m.number p (vote_here s l.leader.session p) l s) (seeks m.number (server_of s.map p.file) p l s)) c)

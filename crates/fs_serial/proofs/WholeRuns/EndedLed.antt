@@ -1,0 +1,349 @@
+-- An operation is led, and its votes are counted: what is told of leases that had ended is right then.
+use Rattle.std.proofs.Common.{◌≡◌, ◌≤◌, ◌⊎◌, ◌==◌, ℕ, ◌+◌, Bool, true, false, List, [], ◌∷◌, ◌++◌, cond, append-nil, refl, sym, ap, ap₂, ◌∙◌, subst, inl, inr, arith}
+use Rattle.std.specs.Prelude.{Option, Some, None, slice_get, slice_set}
+use Rattle.fs_ident.specs.In.{In}
+use Rattle.fs_ident.specs.declared.actor.LeaseNo.{LeaseNo}
+use Rattle.fs_ident.specs.declared.actor.Peer.{Peer}
+use Rattle.fs_ident.specs.declared.actor.Peer.TheVariants.{Client as OfSession, Server as OfServer}
+use Rattle.fs_ident.specs.declared.actor.Session.{Session}
+use Rattle.fs_ident.specs.declared.actor.TxnNo.{TxnNo}
+use Rattle.fs_ident.proofs.Passing.{found}
+use Rattle.fs_ident.proofs.Same.{itself}
+use Rattle.fs_ident.proofs.Standing.{In-append, In-got}
+use Rattle.fs_field.specs.declared.used.Part.{Part}
+use Rattle.fs_field.specs.declared.vote.Vote.{Vote}
+use Rattle.fs_field.specs.declared.vote.Vote.TheVariants as vote
+use Rattle.fs_map.specs.Map.{server_of}
+use Rattle.fs_record.specs.declared.led_end.LedEnd.{LedEnd}
+use Rattle.fs_record.specs.declared.led_end.LedEnd.TheVariants as led
+use Rattle.fs_record.specs.declared.led_end.Why.{Why}
+use Rattle.fs_msg.specs.declared.answer.Answer.{Answer}
+use Rattle.fs_msg.specs.declared.answer.Answer.TheVariants as answer
+use Rattle.fs_msg.specs.declared.client_msg.ClientMsg.{ClientMsg}
+use Rattle.fs_msg.specs.declared.client_msg.ClientMsg.TheVariants.{Lead}
+use Rattle.fs_msg.specs.declared.lead.Lead.{Lead as ToLead}
+use Rattle.fs_msg.specs.declared.msg.Msg.{Msg}
+use Rattle.fs_msg.specs.declared.msg.Msg.TheVariants as msg
+use Rattle.fs_msg.specs.declared.peer_msg.PeerMsg.TheVariants as peer
+use Rattle.fs_msg.specs.declared.prepare.Prepare.{Prepare as PrepareMsg}
+use Rattle.fs_msg.specs.declared.server_note.ServerNote.{ServerNote}
+use Rattle.fs_msg.specs.declared.server_note.ServerNote.TheVariants as note
+use Rattle.fs_msg.specs.declared.voted.Voted.{Voted as VotedMsg}
+use Rattle.fs_client.specs.Led.{lead_of}
+use Rattle.fs_client.specs.declared.led.Led.{Led}
+use Rattle.fs_server.specs.Begins.{Round, first_round, leader_with, parts_in, round_of, rounds, txn_of}
+use Rattle.fs_server.specs.Concludes.{waits}
+use Rattle.fs_server.specs.Counts.{after_own_vote, ask_for, asked_at, comes_home, counts, counts_own, seeks, sent_on, vote_step, voted, with_vote}
+use Rattle.fs_server.specs.Follows.{to_server, vote_here}
+use Rattle.fs_server.specs.Leads.{lead_refusal, leads_unless, refuses}
+use Rattle.fs_server.specs.LeadingLaws.{CommitSplits}
+use Rattle.fs_server.specs.Server.{Stepped, is_mine, to_session}
+use Rattle.fs_server.specs.declared.event.ServerEvent.{ServerEvent}
+use Rattle.fs_server.specs.declared.event.ServerEvent.TheVariants as event
+use Rattle.fs_server.specs.declared.state.Server.{Server}
+use Rattle.fs_txn.specs.Leading.{leading_of}
+use Rattle.fs_txn.specs.Votes.{Votes, is_moved, votes_after}
+use Rattle.fs_txn.specs.declared.leading.Ending.{Ending}
+use Rattle.fs_txn.specs.declared.leading.Leading.{Leading}
+use Rattle.fs_serial.specs.Cluster.{Cluster, InFlight, IsThere, after_step, in_flight_from, is_between, parcels_of, without_arrived}
+use Rattle.fs_serial.specs.EndedLeases.{EndsFair, WasEnded}
+use Rattle.fs_serial.specs.Exchange.{IsToBeLed}
+use Rattle.fs_serial.specs.Leading.{IsLeading}
+use Rattle.fs_serial.specs.Owed.{ends_in}
+use Rattle.fs_serial.specs.Seen.{ClusterHolds, world_of}
+use Rattle.fs_serial.specs.Words.{leading_at, led_in}
+use Rattle.fs_serial.proofs.LedOperations.LedSteps.{to_lead}
+use Rattle.fs_serial.proofs.Lists.SetAt.{In_set}
+use Rattle.fs_serial.proofs.Moves.Parcels.{parcels-append}
+use Rattle.fs_serial.proofs.Transactions.AwaitedWords.{IsAwaited, vote_here_is, vote_is}
+use Rattle.fs_serial.proofs.Transactions.Desks.{was_at}
+use Rattle.fs_serial.proofs.Transactions.PlacesAfter.{AreRelocked, relocked_not, voted_so, word_taken}
+use Rattle.fs_serial.proofs.Transactions.RoundsLocks.{round_by}
+use Rattle.fs_serial.proofs.Transactions.Tables.{in_with_leading}
+use Rattle.fs_serial.proofs.Transactions.Undecided.{up_asked, up_led}
+use Rattle.fs_serial.proofs.WholeRuns.EndedDecisions.{goes_on_fair}
+use Rattle.fs_serial.proofs.WholeRuns.EndedStay.{RowsLater, stepped_later}
+use Rattle.fs_serial.proofs.WholeRuns.EndedSteps.{EndFair, VotesFair, event_ending, event_fair, event_leading, event_one, event_still}
+use Rattle.fs_serial.proofs.WholeRuns.EndedVotes.{rounds_said, vote_fair}
+use Rattle.fs_serial.proofs.WholeRuns.LedQuestions as questions
+use Rattle.fs_serial.proofs.WholeRuns.LedQuestions.{asks, begun, rounds_relock}
+use Rattle.fs_serial.proofs.WholeRuns.LedVotes.{counted_waits, own_waits, q}
+
+-- ## What is asked for
+
+-- the message asks a server for a part
+pub record IsAsk (m : Peer × Msg) : Type 0 where
+  pub to : ℕ
+  pub prepare : PrepareMsg
+  pub is : m ≡ to_server to (peer.Prepare prepare)
+
+ask_votes : (m : Peer × Msg) → IsAsk m → (to : ℕ) (v : VotedMsg) → (OfServer to, msg.Peer (peer.Vote v)) ≡ m → ⊥
+ask_votes m a to v e =
+    let wrong : msg.Peer (peer.Vote v) ≡ msg.Peer (peer.Prepare a.prepare) = ap (λ (p : Peer × Msg). p.1) (e ∙ a.is) in absurd (cc wrong)
+
+ask_answers : (m : Peer × Msg) → IsAsk m → (to : Session) (z : LedEnd) → (OfSession to, msg.Answer (answer.Led z)) ≡ m → ⊥
+ask_answers m a to z e =
+    let wrong : OfSession to ≡ OfServer a.to = ap (λ (p : Peer × Msg). p.0) (e ∙ a.is) in absurd (cc wrong)
+
+one_ask : (txn : TxnNo) (number : ℕ) (by : Session) (p : Part) (to : ℕ) (m : Peer × Msg) → In m (to_server to (ask_for txn number by p) ∷ []) → IsAsk m
+one_ask txn number by p to m (inl e) = record { to = to; prepare = _; is = e }
+one_ask txn number by p to m (inr z) = absurd z
+
+rounds_asks : (txn : TxnNo) (number : ℕ) (by : Session) (ps : List Part) (r : Round) → ((m : Peer × Msg) → In m r.send → IsAsk m)
+    → (m : Peer × Msg) → In m (rounds txn number by ps r).send → IsAsk m
+rounds_asks txn number by [] r are = are
+rounds_asks txn number by (p ∷ ps) r are =
+    rounds_asks txn (number + 1) by ps (round_by txn number by p r (is_mine r.server p.file)) (one (is_mine r.server p.file))
+  where
+    one : (b : Bool) (m : Peer × Msg) → In m (round_by txn number by p r b).send → IsAsk m
+    one true m i = are m i
+    one false m i = elim (In-append m r.send (to_server (server_of r.server.map p.file) (ask_for txn number by p) ∷ []) i) as (λ _. IsAsk m) [
+      | inl j ↦ are m j
+      | inr j ↦ one_ask txn number by p (server_of r.server.map p.file) m j
+    ]
+
+-- an answer is no vote
+pub answer_votes : (by : Session) (a : Answer) (to : ℕ) (v : VotedMsg) → In (OfServer to, msg.Peer (peer.Vote v)) (to_session by a ∷ []) → ⊥
+answer_votes by a to v (inl e) = let wrong : OfServer to ≡ OfSession by = ap (λ (p : Peer × Msg). p.0) e in absurd (cc wrong)
+answer_votes by a to v (inr z) = z
+
+-- a vote that stands then stood, or is the new one
+votes_in : (votes : Votes) (number : ℕ) (v : Vote) (x : Option Vote) → In x (votes_after votes number v) → (x ≡ Some v) ⊎ In x votes
+votes_in votes number vote.Yes x i = In_set votes number (Some vote.Yes) x i
+votes_in votes number (vote.Ended n u a) x i = In_set votes number (Some (vote.Ended n u a)) x i
+votes_in votes number (vote.PathsOut n) x i = In_set votes number (Some (vote.PathsOut n)) x i
+votes_in votes number (vote.Moved prefix to) x i = inr i
+
+pub parcels_then : (k : ℕ) (c : Cluster) (left : List InFlight) (ms : List (Peer × Msg)) → parcels_of left ≡ parcels_of c.in_flight
+    → parcels_of (in_flight_from k ms) ≡ [] → parcels_of (left ++ in_flight_from k ms) ≡ parcels_of c.in_flight
+parcels_then k c left ms same none =
+    parcels-append left (in_flight_from k ms) ∙ ap₂ (λ xs ys. xs ++ ys) same none ∙ append-nil (parcels_of c.in_flight)
+
+-- ## It waits
+
+module _ (skew greatest k : ℕ) (c : Cluster) (s : Server) (at : slice_get c.servers k ≡ Some s) (h : ClusterHolds skew greatest c)
+    (f : EndsFair c) where
+  here : In s c.servers
+  here = In-got c.servers k s at
+
+  module _ (e : ServerEvent) (n : ServerNote) (new : Leading) (ms : List (Peer × Msg)) (t : Server) where
+    abbrev x : Stepped
+    x = waits n new ms t
+
+    -- rows are locked, others are asked, and what is new is the votes of one transaction
+    pub record OnlyWaits : Type 0 where
+      pub rows : AreRelocked s.rows t.rows
+      pub given : t.given ≡ s.given
+      pub leading : t.leading ≡ s.leading
+      pub ending : t.ending ≡ s.ending
+      pub parcels : parcels_of (without_arrived k e c.in_flight) ≡ parcels_of c.in_flight
+      pub none : parcels_of (in_flight_from k ms) ≡ []
+      pub asks : (m : Peer × Msg) → In m ms → IsAsk m
+      pub votes : VotesFair c new.leader.session new.leader.votes
+      pub session : (o : Leading) → In o s.leading → new.leader.txn ≡ o.leader.txn → new.leader.session ≡ o.leader.session
+
+    pub waits_fair : OnlyWaits → EndsFair (after_step k e x c)
+    waits_fair w =
+        let later : RowsLater c (after_step k e x c) =
+        stepped_later k c (after_step k e x c) s x.server at h.places refl
+        (parcels_then k c (without_arrived k e c.in_flight) ms w.parcels w.none) w.given w.rows in
+        event_fair skew greatest k c s at h f e x (record {
+          later = later;
+          leading = λ l i. elim (in_with_leading new t.leading l i) as (λ _. VotesFair (after_step k e x c) l.leader.session l.leader.votes) [
+            | inl same ↦ subst (λ (z : Leading). VotesFair (after_step k e x c) z.leader.session z.leader.votes) (sym same)
+                (λ number end now v. event_still skew greatest k c s at h f e x later new.leader.session number end now (w.votes number end now v))
+            | inr j ↦ event_leading skew greatest k c s at h f e x later l (subst (In l) w.leading j.0)
+          ];
+          before = λ l o i j its. elim (in_with_leading new t.leading l i) as (λ _. l.leader.session ≡ o.leader.session) [
+            | inl same ↦ ap (λ (z : Leading). z.leader.session) same
+                ∙ w.session o j (ap (λ (z : Leading). z.leader.txn) (sym same) ∙ its)
+            | inr p ↦ event_one skew greatest k c s at h f e x l o (subst (In l) w.leading p.0) j its
+          ];
+          ending = λ y i. event_ending skew greatest k c s at h f e x later y (subst (In y) w.ending i);
+          votes = λ to m i. absurd (ask_votes (OfServer to, msg.Peer (peer.Vote m)) (w.asks _ i) to m refl);
+          answers = λ to z i. absurd (ask_answers (OfSession to, msg.Answer (answer.Led z)) (w.asks _ i) to z refl);
+        })
+
+  -- ## A question
+
+  module _ (splits : CommitSplits) (within : greatest ≤ s.last + skew) (by : Session) (m : ToLead)
+      (comes : IsThere k (event.FromClient by (Lead m)) c) where
+    abbrev asking : ServerEvent
+    asking = event.FromClient by (Lead m)
+
+    abbrev r : Round
+    r = round_of by m s
+
+    abbrev begins : Leading
+    begins = record { leader = leader_with (txn_of s) by m r.votes; at = r.at }
+
+    up : (ends_in c by).up ≡ Lead m ∷ []
+    up = up_asked skew greatest c s here h by k m comes
+
+    asked : IsToBeLed (c.lines by).client.led m
+    asked = to_lead greatest (world_of s c) by m up (h.parts s here).0
+
+    begun_votes : VotesFair c by r.votes
+    begun_votes number end now i =
+        elim (rounds_said s (txn_of s) 0 by (parts_in m) (first_round s) (λ p. refl) (vote.Ended number end now) i) as
+        (λ _. WasEnded c by number end now) [
+          | inl z ↦ absurd z
+          | inr p ↦
+              vote_fair skew greatest k c s at h by asked.led (up ∙ ap (λ (x : ToLead). let xs : List ClientMsg = Lead x ∷ [] in xs) asked.told)
+              asked.is within p.0 (subst (λ (x : ToLead). In p.0 (parts_in x)) asked.told p.1.0) number end now p.1.1
+        ]
+
+    begun_waits : OnlyWaits asking (note.Prepares (txn_of s)) begins r.send r.server
+    begun_waits =
+        let left = questions.left skew greatest k c s at h splits by m comes in
+        record {
+          rows = rounds_relock (txn_of s) 0 by (parts_in m) (first_round s) s.rows (relocked_not s.rows);
+          given = ap (λ (z : Server). z.given) left;
+          leading = ap (λ (z : Server). z.leading) left;
+          ending = ap (λ (z : Server). z.ending) left;
+          parcels = refl;
+          none = (asks skew greatest k c s at h splits by m comes).1.0;
+          asks = rounds_asks (txn_of s) 0 by (parts_in m) (first_round s) (λ x z. absurd z);
+          votes = begun_votes;
+          session = λ o i same.
+              let few = (h.led.leading s here o i).begun in
+              let count : s.txns + 1 ≡ o.leader.txn.count = ap (λ (u : TxnNo). u.count) same in
+              absurd (omega (arith, few, count));
+        }
+
+    refused : (w : Why) → EndsFair (after_step k asking (refuses by w s) c)
+    refused w =
+        let x : Stepped = refuses by w s in
+        let later : RowsLater c (after_step k asking x c) =
+        stepped_later k c (after_step k asking x c) s s at h.places refl (parcels_then k c c.in_flight x.out.send refl refl) refl
+        (relocked_not s.rows) in
+        event_fair skew greatest k c s at h f asking x (record {
+          later = later;
+          leading = event_leading skew greatest k c s at h f asking x later;
+          before = event_one skew greatest k c s at h f asking x;
+          ending = event_ending skew greatest k c s at h f asking x later;
+          votes = λ to v i. absurd (answer_votes by (answer.Led (led.Again w)) to v i);
+          answers = λ to z i number end now ends. elim i as (λ _. WasEnded (after_step k asking x c) to number end now) [
+            | inl e ↦
+                let word : msg.Answer (answer.Led z) ≡ msg.Answer (answer.Led (led.Again w)) = ap (λ (p : Peer × Msg). p.1) e in
+                let same : z ≡ led.Again w = cc in
+                let wrong : led.Ended number end now ≡ led.Again w = sym ends ∙ same in
+                absurd (cc wrong)
+            | inr y ↦ absurd y
+          ];
+        })
+
+    pub lead_fair : EndsFair (after_step k asking (leads_unless (lead_refusal s m) by m s) c)
+    lead_fair = by_refusal (lead_refusal s m) refl
+      where
+        by_refusal : (o : Option Why) → lead_refusal s m ≡ o → EndsFair (after_step k asking (leads_unless o by m s) c)
+        by_refusal None accepted =
+            goes_on_fair skew greatest k c s at asking (λ items replied. refl) splits (note.Prepares (txn_of s)) begins r.send r.server
+            (begun skew greatest k c s at h splits by m comes accepted)
+            (waits_fair asking (note.Prepares (txn_of s)) begins r.send r.server begun_waits)
+        by_refusal (Some w) why = refused w
+
+  -- ## A vote
+
+  module _ (splits : CommitSplits) (within : greatest ≤ s.last + skew) (from : ℕ) (m : VotedMsg)
+      (comes : IsThere k (event.FromPeer from (peer.Vote m)) c) where
+    abbrev voting : ServerEvent
+    voting = event.FromPeer from (peer.Vote m)
+
+    abbrev g : InFlight
+    g = record { from = from; to = k; message = peer.Vote m }
+
+    abbrev a : IsAwaited s m
+    a = q skew greatest k c s at h splits from m comes
+
+    abbrev l : Leading
+    l = a.leading
+
+    leads : IsLeading c.lines s h.led.parts l
+    leads = h.led.leading s here l a.among
+
+    its_led : led_in c.servers m.txn ≡ Some l
+    its_led =
+        let place : k ≡ m.txn.server = (vote_here_is k from c s at h.led m comes).leader in
+        ap (λ o. leading_of m.txn (leading_at o)) (was_at c.servers k s s at m.txn.server (ap (λ j. j == k) (sym place) ∙ itself k)) ∙ a.led
+
+    -- it waits with these votes
+    only_waits : (n : ServerNote) (votes : Votes) (places : List ℕ) (ms : List (Peer × Msg)) (t : Server) → AreRelocked s.rows t.rows
+        → t.given ≡ s.given → t.leading ≡ s.leading → t.ending ≡ s.ending → parcels_of (in_flight_from k ms) ≡ []
+        → ((x : Peer × Msg) → In x ms → IsAsk x) → VotesFair c l.leader.session votes
+        → EndsFair (after_step k voting (waits n (record { leader = record l.leader { votes = votes }; at = places }) ms t) c)
+    only_waits n votes places ms t rows given leading ending none asks fair =
+        waits_fair voting n (record { leader = record l.leader { votes = votes }; at = places }) ms t (record {
+          rows = rows;
+          given = given;
+          leading = leading;
+          ending = ending;
+          parcels = word_taken (is_between from k) c.in_flight g comes refl;
+          none = none;
+          asks = asks;
+          votes = fair;
+          session = λ o i same. event_one skew greatest k c s at h f voting (waits n l ms t) l o a.among i same;
+        })
+
+    old_votes : VotesFair c l.leader.session l.leader.votes
+    old_votes = f.counted s here l a.among
+
+    one_more : (v : Vote) → ((number : LeaseNo) (end now : ℕ) → v ≡ vote.Ended number end now → WasEnded c l.leader.session number end now)
+        → VotesFair c l.leader.session (votes_after l.leader.votes m.number v)
+    one_more v right number end now i =
+        elim (votes_in l.leader.votes m.number v (Some (vote.Ended number end now)) i) as (λ _. WasEnded c l.leader.session number end now) [
+          | inl e ↦ let same : v ≡ vote.Ended number end now = cc in right number end now same
+          | inr j ↦ old_votes number end now j
+        ]
+
+    counted : is_moved m.vote ≡ false → EndsFair (after_step k voting (counts m.number m.vote l s) c)
+    counted stays =
+        goes_on_fair skew greatest k c s at voting (λ items replied. refl) splits (note.Waits l.leader.txn) (with_vote m.number m.vote l) [] s
+        (counted_waits skew greatest k c s at h splits from m comes stays)
+        (only_waits (note.Waits l.leader.txn) (votes_after l.leader.votes m.number m.vote) l.at [] s (relocked_not s.rows) refl refl refl refl
+        (λ x z. absurd z)
+        (one_more m.vote (λ number end now v. f.coming g (found (is_between from k) c.in_flight g comes).0 m refl number end now v l its_led)))
+
+    module _ (p : Part) (part : slice_get l.leader.parts m.number ≡ Some p) (moved : is_moved m.vote ≡ true) where
+      sought : (to : ℕ) → EndsFair (after_step k voting (seeks m.number to p l s) c)
+      sought to =
+          only_waits (note.Seeks l.leader.txn to) l.leader.votes (slice_set l.at m.number to)
+          (to_server to (ask_for l.leader.txn m.number l.leader.session p) ∷ []) s (relocked_not s.rows) refl refl refl refl
+          (one_ask l.leader.txn m.number l.leader.session p to) old_votes
+
+      abbrev own_vote : Vote
+      own_vote = vote_here s l.leader.session p
+
+      own_right : (number : LeaseNo) (end now : ℕ) → own_vote ≡ vote.Ended number end now → WasEnded c l.leader.session number end now
+      own_right =
+          vote_fair skew greatest k c s at h l.leader.session leads.led
+          (up_led skew greatest c s here h l.leader.session s here l a.among refl leads.led leads.client.led) leads.client.led within p
+          (subst (In p) leads.leader.parts (In-got l.leader.parts m.number p part))
+
+      own : is_mine s p.file ≡ true → EndsFair (after_step k voting (counts_own m.number p own_vote l s) c)
+      own mine =
+          goes_on_fair skew greatest k c s at voting (λ items replied. refl) splits (note.Waits l.leader.txn)
+          (with_vote m.number own_vote (asked_at m.number s.me l)) [] (after_own_vote l.leader.txn p own_vote s)
+          (own_waits skew greatest k c s at h splits from m comes p part moved mine)
+          (only_waits (note.Waits l.leader.txn) (votes_after l.leader.votes m.number own_vote) (slice_set l.at m.number s.me) []
+          (after_own_vote l.leader.txn p own_vote s) (voted_so own_vote l.leader.txn p.uses s.rows) refl refl refl refl (λ x z. absurd z)
+          (one_more own_vote own_right))
+
+      home : (b : Bool) → is_mine s p.file ≡ b → EndsFair (after_step k voting
+          (cond b (counts_own m.number p own_vote l s) (seeks m.number (server_of s.map p.file) p l s)) c)
+      home true mine = own mine
+      home false off = sought (server_of s.map p.file)
+
+      sent : (to : ℕ) (b : Bool) → EndsFair (after_step k voting (cond b (comes_home m.number p l s) (seeks m.number to p l s)) c)
+      sent to true = home (is_mine s p.file) refl
+      sent to false = sought to
+
+    by_vote : (v : Vote) → m.vote ≡ v → EndsFair (after_step k voting (voted m.number v l s) c)
+    by_vote vote.Yes is = subst (λ v. EndsFair (after_step k voting (counts m.number v l s) c)) is (counted (ap is_moved is))
+    by_vote (vote.Ended n u w) is = subst (λ v. EndsFair (after_step k voting (counts m.number v l s) c)) is (counted (ap is_moved is))
+    by_vote (vote.PathsOut n) is = subst (λ v. EndsFair (after_step k voting (counts m.number v l s) c)) is (counted (ap is_moved is))
+    by_vote (vote.Moved prefix to) is =
+        subst (λ o. EndsFair (after_step k voting (sent_on m.number to o l s) c)) (sym a.part) (sent a.wanted a.part (ap is_moved is) to (to == s.me))
+
+    pub voted_fair : EndsFair (after_step k voting (vote_step m s) c)
+    voted_fair = subst (λ x. EndsFair (after_step k voting x c)) (sym (vote_is k from c s at h.led m a)) (by_vote m.vote refl)

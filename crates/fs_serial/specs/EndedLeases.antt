@@ -1,0 +1,49 @@
+-- What is told of leases that had ended while an operation is led.
+use Rattle.std.specs.Prelude.{◌≡◌, ℕ, ◌≤◌, Some, slice_get}
+use Rattle.fs_ident.specs.In.{In}
+use Rattle.fs_ident.specs.declared.actor.LeaseNo.{LeaseNo}
+use Rattle.fs_ident.specs.declared.actor.Session.{Session}
+use Rattle.fs_field.specs.declared.used.Use.{Use}
+use Rattle.fs_field.specs.declared.vote.Vote.TheVariants as vote
+use Rattle.fs_record.specs.declared.led_end.LedEnd.{LedEnd}
+use Rattle.fs_record.specs.declared.led_end.LedEnd.TheVariants as led
+use Rattle.fs_msg.specs.declared.answer.Answer.{Answer}
+use Rattle.fs_msg.specs.declared.answer.Answer.TheVariants as answer
+use Rattle.fs_msg.specs.declared.peer_msg.PeerMsg.TheVariants as peer
+use Rattle.fs_msg.specs.declared.voted.Voted.{Voted}
+use Rattle.fs_client.specs.declared.led.Led.{Led}
+use Rattle.fs_server.specs.declared.state.Server.{Server}
+use Rattle.fs_txn.specs.declared.leading.Ending.{Ending}
+use Rattle.fs_txn.specs.declared.leading.Leading.{Leading}
+use Rattle.fs_serial.specs.Cluster.{Cluster, InFlight}
+use Rattle.fs_serial.specs.Refusals.{rows_in}
+use Rattle.fs_serial.specs.Seen.{given_at}
+use Rattle.fs_serial.specs.Steps.{HadEnded}
+use Rattle.fs_serial.specs.Words.{led_in}
+
+-- the session waits for an operation to be led that used the lease; its row is gone with all servers, for good since its number was
+-- given before, and at that reading it had ended
+pub record WasEnded (c : Cluster) (by : Session) (number : LeaseNo) (end now : ℕ) : Type 0 where
+  pub led : Led
+  pub waits : (c.lines by).client.led ≡ Some led
+  pub used : Use
+  pub no : used.no ≡ number
+  pub until : used.until ≡ end
+  pub had : HadEnded (rows_in c) now led.entry used
+  pub given : number.count ≤ given_at (slice_get c.servers number.server)
+
+-- whatever tells of a lease that it had ended is right
+pub record EndsFair (c : Cluster) : Type 0 where
+  -- a vote that is counted
+  pub counted : (s : Server) → In s c.servers → (l : Leading) → In l s.leading → (number : LeaseNo) (end now : ℕ)
+      → In (Some (vote.Ended number end now)) l.leader.votes → WasEnded c l.leader.session number end now
+  -- a vote that comes to the leader
+  pub coming : (f : InFlight) → In f c.in_flight → (m : Voted) → f.message ≡ peer.Vote m → (number : LeaseNo) (end now : ℕ)
+      → m.vote ≡ vote.Ended number end now → (l : Leading) → led_in c.servers m.txn ≡ Some l
+      → WasEnded c l.leader.session number end now
+  -- an end that is kept until all is done
+  pub kept : (s : Server) → In s c.servers → (x : Ending) → In x s.ending → (number : LeaseNo) (end now : ℕ)
+      → x.end ≡ led.Ended number end now → WasEnded c x.session number end now
+  -- an end that comes to its session
+  pub told : (by : Session) (k : ℕ) (number : LeaseNo) (end now : ℕ)
+      → In (k, answer.Led (led.Ended number end now)) (c.lines by).down → WasEnded c by number end now
