@@ -3,6 +3,7 @@ use Rattle.std.specs.Prelude.{◌≡◌, ℕ, ◌≤◌, Some, slice_get}
 use Rattle.fs_ident.specs.In.{In}
 use Rattle.fs_ident.specs.declared.actor.LeaseNo.{LeaseNo}
 use Rattle.fs_ident.specs.declared.actor.Session.{Session}
+use Rattle.fs_ident.specs.declared.actor.TxnNo.{TxnNo}
 use Rattle.fs_field.specs.declared.used.Use.{Use}
 use Rattle.fs_field.specs.declared.vote.Vote.TheVariants as vote
 use Rattle.fs_record.specs.declared.led_end.LedEnd.{LedEnd}
@@ -10,6 +11,8 @@ use Rattle.fs_record.specs.declared.led_end.LedEnd.TheVariants as led
 use Rattle.fs_msg.specs.declared.answer.Answer.{Answer}
 use Rattle.fs_msg.specs.declared.answer.Answer.TheVariants as answer
 use Rattle.fs_msg.specs.declared.peer_msg.PeerMsg.TheVariants as peer
+use Rattle.fs_msg.specs.declared.server_note.ServerNote.{ServerNote}
+use Rattle.fs_msg.specs.declared.server_note.ServerNote.TheVariants as note
 use Rattle.fs_msg.specs.declared.voted.Voted.{Voted}
 use Rattle.fs_client.specs.declared.led.Led.{Led}
 use Rattle.fs_server.specs.declared.state.Server.{Server}
@@ -47,3 +50,8 @@ pub record EndsFair (c : Cluster) : Type 0 where
   -- an end that comes to its session
   pub told : (by : Session) (k : ℕ) (number : LeaseNo) (end now : ℕ)
       → In (k, answer.Led (led.Ended number end now)) (c.lines by).down → WasEnded c by number end now
+
+-- where a server notes that an operation that it led is refused, it is one that its session waits for, and that lease had ended
+abbrev pub IsFairAbort : Cluster → ServerNote → Type 0
+IsFairAbort c n = (txn : TxnNo) (number : LeaseNo) (end now : ℕ) → n ≡ note.AbortsEnded txn number end now
+    → (by : Session) × WasEnded c by number end now

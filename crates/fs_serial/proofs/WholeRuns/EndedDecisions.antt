@@ -20,8 +20,9 @@ use Rattle.fs_msg.specs.declared.msg.Msg.{Msg}
 use Rattle.fs_msg.specs.declared.msg.Msg.TheVariants as msg
 use Rattle.fs_msg.specs.declared.peer_msg.PeerMsg.TheVariants as peer
 use Rattle.fs_msg.specs.declared.server_note.ServerNote.{ServerNote}
+use Rattle.fs_msg.specs.declared.server_note.ServerNote.TheVariants as note
 use Rattle.fs_msg.specs.declared.voted.Voted.{Voted as VotedMsg}
-use Rattle.fs_server.specs.Concludes.{concludes, ends_now, goes_on, tells, waits}
+use Rattle.fs_server.specs.Concludes.{concludes, end_note, ends_now, goes_on, tells, waits}
 use Rattle.fs_server.specs.LeadingLaws.{CommitSplits}
 use Rattle.fs_server.specs.Server.{Stepped}
 use Rattle.fs_server.specs.declared.event.ServerEvent.{ServerEvent}
@@ -36,7 +37,7 @@ use Rattle.fs_txn.specs.declared.leading.Ending.{Ending}
 use Rattle.fs_txn.specs.declared.leading.Leading.{Leading}
 use Rattle.fs_serial.specs.Cluster.{Cluster, after_step, with_items}
 use Rattle.fs_serial.specs.Conclusions.{TellsItems, after_concluded}
-use Rattle.fs_serial.specs.EndedLeases.{EndsFair, WasEnded}
+use Rattle.fs_serial.specs.EndedLeases.{EndsFair, IsFairAbort}
 use Rattle.fs_serial.specs.Locks.{at_home}
 use Rattle.fs_serial.specs.Seen.{ClusterHolds}
 use Rattle.fs_serial.proofs.DecidedEffects.DecisionSeen.{is_relock, relock, rows_are}
@@ -163,18 +164,48 @@ module _ (skew greatest k : ℕ) (c : Cluster) (s : Server) (at : slice_get c.se
         subst (λ w. EndFair then w z) (sym q.0) (subst (EndFair then l.leader.session) (sym q.1) end_right);
   })
 
+-- ## What is noted
+
+-- nothing is said of a lease
+abbrev pub NamesNone : ServerNote → Type 0
+NamesNone n = (txn : TxnNo) (number : LeaseNo) (end now : ℕ) → n ≡ note.AbortsEnded txn number end now → ⊥
+
+pub noted_none : (c : Cluster) (n : ServerNote) → NamesNone n → IsFairAbort c n
+noted_none c n none txn number end now e = absurd (none txn number end now e)
+
+end_noted : (c : Cluster) (txn : TxnNo) (by : Session) (e : LedEnd) → EndFair c by e → IsFairAbort c (end_note txn e)
+end_noted c txn by (led.Done r) right u number end now e = absurd (cc e)
+end_noted c txn by (led.Again w) right u number end now e = absurd (cc e)
+end_noted c txn by (led.Ended n u a) right t number end now e =
+    let x : n ≡ number = cc in
+    let y : u ≡ end = cc in
+    let z : a ≡ now = cc in
+    (by, right number end now (cc (x, y, z)))
+
+-- all that is told after the step, and what is noted, is right
+abbrev pub IsRightStep : ℕ → ServerEvent → Cluster → Stepped → Type 0
+IsRightStep k e c x = EndsFair (after_step k e x c) × IsFairAbort (after_step k e x c) x.out.note
+
 -- it waits, and is decided then
 module _ (skew greatest k : ℕ) (c : Cluster) (s : Server) (at : slice_get c.servers k ≡ Some s) (e : ServerEvent) (tells : TellsItems e)
     (splits : CommitSplits) (n : ServerNote) (l : Leading) (sent : List (Peer × Msg)) (t : Server) where
   abbrev waiting : Server
   waiting = (waits n l sent t).server
 
-  pub goes_on_fair : ClusterHolds skew greatest (behind skew greatest k c s at e tells splits n l sent t)
-      → EndsFair (behind skew greatest k c s at e tells splits n l sent t) → EndsFair (after_step k e (goes_on n l sent t) c)
-  goes_on_fair h f = by (is_full l.leader.votes)
+  pub goes_on_fair : NamesNone n → ClusterHolds skew greatest (behind skew greatest k c s at e tells splits n l sent t)
+      → EndsFair (behind skew greatest k c s at e tells splits n l sent t) → IsRightStep k e c (goes_on n l sent t)
+  goes_on_fair none h f = by (is_full l.leader.votes)
     where
-      by : (b : Bool) → EndsFair (after_step k e (cond b (concludes l sent t) (waits n l sent t)) c)
-      by true = subst EndsFair (same_cluster skew greatest k c s at e tells splits n l sent t)
-          (concluded_fair skew greatest k (behind skew greatest k c s at e tells splits n l sent t) waiting
-          (get_here c.servers k s waiting at) h f l (leading_set l t.leading))
-      by false = f
+      by : (b : Bool) → IsRightStep k e c (cond b (concludes l sent t) (waits n l sent t))
+      by true =
+          let before : Cluster = behind skew greatest k c s at e tells splits n l sent t in
+          let now : slice_get before.servers k ≡ Some waiting = get_here c.servers k s waiting at in
+          let led : leading_of l.leader.txn waiting.leading ≡ Some l = leading_set l t.leading in
+          let last : ServerNote = end_note l.leader.txn (end_of_decision (decision l.leader None)) in
+          subst (λ (d : Cluster). EndsFair d × IsFairAbort d last) (same_cluster skew greatest k c s at e tells splits n l sent t)
+          (
+            concluded_fair skew greatest k before waiting now h f l led,
+            end_noted (after_concluded k l waiting before) l.leader.txn l.leader.session (end_of_decision (decision l.leader None))
+                (end_right skew greatest k before waiting now h f l led),
+          )
+      by false = (f, noted_none (after_step k e (waits n l sent t) c) n none)

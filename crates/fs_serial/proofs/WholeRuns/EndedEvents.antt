@@ -49,7 +49,7 @@ use Rattle.fs_txn.specs.declared.leading.Leading.{Leading}
 use Rattle.fs_txn.specs.declared.ready.Ready.{Ready}
 use Rattle.fs_txn.proofs.Keys.{txn_is}
 use Rattle.fs_serial.specs.Cluster.{Cluster, InFlight, IsThere, after_server_at, after_step, in_flight_from, is_between, parcels_of, without_first}
-use Rattle.fs_serial.specs.EndedLeases.{EndsFair, WasEnded}
+use Rattle.fs_serial.specs.EndedLeases.{EndsFair, IsFairAbort, WasEnded}
 use Rattle.fs_serial.specs.Leading.{IsLeading}
 use Rattle.fs_serial.specs.Seen.{ClusterHolds, counts_of, given_at}
 use Rattle.fs_serial.specs.Words.{ended_in, key_of, leading_at, led_in}
@@ -64,6 +64,7 @@ use Rattle.fs_serial.proofs.Transactions.OwnersOfLocks.{in_range}
 use Rattle.fs_serial.proofs.Transactions.PlacesAfter.{AreRelocked, locked_so, relocked_not, unlocked_so, unlocked_unless, word_taken}
 use Rattle.fs_serial.proofs.Transactions.Tables.{in_with_ending}
 use Rattle.fs_serial.proofs.Transactions.Undecided.{up_led}
+use Rattle.fs_serial.proofs.WholeRuns.EndedDecisions.{IsRightStep, noted_none}
 use Rattle.fs_serial.proofs.WholeRuns.EndedLed.{answer_votes, lead_fair, parcels_then, voted_fair}
 use Rattle.fs_serial.proofs.WholeRuns.EndedOthers.{other_fair}
 use Rattle.fs_serial.proofs.WholeRuns.EndedStay.{RowsLater, counts_rise, ended_stays, fewer_later, stepped_later}
@@ -176,8 +177,9 @@ module _ (skew greatest k : ℕ) (c : Cluster) (s : Server) (at : slice_get c.se
         no_answer to z (inl e) = let wrong : OfSession to ≡ OfServer from = ap (λ (p : Peer × Msg). p.0) e in absurd (cc wrong)
         no_answer to z (inr y) = y
 
-    pub prepared_fair : EndsFair (after_step k asks (prepare_step from m s) c)
-    prepared_fair = subst (λ y. EndsFair (after_step k asks y c)) (sym (prepare_awaited k from c s at h.led m comes)) voted_fair_then
+    pub prepared_fair : IsRightStep k asks c (prepare_step from m s)
+    prepared_fair = subst (IsRightStep k asks c) (sym (prepare_awaited k from c s at h.led m comes))
+        (voted_fair_then, noted_none then x.out.note (λ txn number end now e. absurd (cc e)))
 
   -- ## A decision
 
@@ -216,8 +218,9 @@ module _ (skew greatest k : ℕ) (c : Cluster) (s : Server) (at : slice_get c.se
         no_answer to z (inl e) = let wrong : OfSession to ≡ OfServer from = ap (λ (p : Peer × Msg). p.0) e in absurd (cc wrong)
         no_answer to z (inr y) = y
 
-    pub decided_fair : EndsFair (after_step k deciding (decide_step from m s) c)
-    decided_fair = subst (λ x. EndsFair (after_step k deciding x c)) (sym (decide_awaited k from c s at h.led m comes)) applied_fair
+    pub decided_fair : IsRightStep k deciding c (decide_step from m s)
+    decided_fair = subst (IsRightStep k deciding c) (sym (decide_awaited k from c s at h.led m comes))
+        (applied_fair, noted_none (after_step k deciding applied c) applied.out.note (λ txn number end now e. absurd (cc e)))
 
   -- ## A part is done
 
@@ -271,10 +274,12 @@ module _ (skew greatest k : ℕ) (c : Cluster) (s : Server) (at : slice_get c.se
             subst (λ w. EndFair done_then w z) (sym p.0) (subst (EndFair done_then y.session) (sym p.1) its_end);
       })
 
-    by_awaits : (ys : List (ℕ × ℕ)) → EndsFair (after_step k doing (done_with left ys s) c)
-    by_awaits [] =
-        done_right (note.Ends y.txn) (rows_unlocked y.txn s.rows) (unlocked_so y.txn s.rows) (to_session y.session (answer.Led y.end) ∷ []) refl
-        (answer_votes y.session (answer.Led y.end)) told_it
+    by_awaits : (ys : List (ℕ × ℕ)) → IsRightStep k doing c (done_with left ys s)
+    by_awaits [] = (
+      done_right (note.Ends y.txn) (rows_unlocked y.txn s.rows) (unlocked_so y.txn s.rows) (to_session y.session (answer.Led y.end) ∷ []) refl
+          (answer_votes y.session (answer.Led y.end)) told_it,
+      noted_none (after_step k doing (done_with left [] s) c) (note.Ends y.txn) (λ txn number end now e. absurd (cc e)),
+    )
       where
         told_it : (to : Session) (z : LedEnd)
             → In (OfSession to, msg.Answer (answer.Led z)) (to_session y.session (answer.Led y.end) ∷ []) → (to ≡ y.session) × (z ≡ y.end)
@@ -285,24 +290,26 @@ module _ (skew greatest k : ℕ) (c : Cluster) (s : Server) (at : slice_get c.se
             let same : z ≡ y.end = cc in
             (own, same)
         told_it to z (inr i) = absurd i
-    by_awaits (n ∷ ns) =
-        done_right (note.Waits y.txn) s.rows (relocked_not s.rows) [] refl (λ to v z. z) (λ to z i. absurd i)
+    by_awaits (n ∷ ns) = (
+      done_right (note.Waits y.txn) s.rows (relocked_not s.rows) [] refl (λ to v z. z) (λ to z i. absurd i),
+      noted_none (after_step k doing (done_with left (n ∷ ns) s) c) (note.Waits y.txn) (λ txn number end now e. absurd (cc e)),
+    )
 
-    pub done_fair : EndsFair (after_step k doing (done_step m s) c)
-    done_fair = subst (λ x. EndsFair (after_step k doing x c)) (sym (done_is k from c s at h.led m q)) (by_awaits left.awaits)
+    pub done_fair : IsRightStep k doing c (done_step m s)
+    done_fair = subst (IsRightStep k doing c) (sym (done_is k from c s at h.led m q)) (by_awaits left.awaits)
 
   -- ## All of them
 
   module _ (within : greatest ≤ s.last + skew) where
     asks_to_lead : (by : Session) (m : ToLead) → IsThere k (event.FromClient by (Lead m)) c
-        → EndsFair (after_step k (event.FromClient by (Lead m)) (lead_step by m s) c)
+        → IsRightStep k (event.FromClient by (Lead m)) c (lead_step by m s)
     asks_to_lead by m there =
-        subst (λ b. EndsFair (after_step k (event.FromClient by (Lead m)) (cond b (leads_unless (lead_refusal s m) by m s) (strange s)) c))
+        subst (λ b. IsRightStep k (event.FromClient by (Lead m)) c (cond b (leads_unless (lead_refusal s m) by m s) (strange s)))
         (sym (led_there skew greatest k c s at h commit_splits by m there))
         (lead_fair skew greatest k c s at h f commit_splits within by m there)
 
     client_fair : (by : Session) (m : ClientMsg) → IsThere k (event.FromClient by m) c
-        → EndsFair (after_step k (event.FromClient by m) (event_step (event.FromClient by m) s) c)
+        → IsRightStep k (event.FromClient by m) c (event_step (event.FromClient by m) s)
     client_fair by (Lead m) there = asks_to_lead by m there
     client_fair by (Ask items dir) there = other_fair skew greatest k c s at h f (event.FromClient by (Ask items dir)) there tt
     client_fair by (Renew pairs) there = other_fair skew greatest k c s at h f (event.FromClient by (Renew pairs)) there tt
@@ -310,14 +317,14 @@ module _ (skew greatest k : ℕ) (c : Cluster) (s : Server) (at : slice_get c.se
     client_fair by (Ship entries) there = other_fair skew greatest k c s at h f (event.FromClient by (Ship entries)) there tt
 
     peer_fair : (from : ℕ) (m : PeerMsg) → IsThere k (event.FromPeer from m) c
-        → EndsFair (after_step k (event.FromPeer from m) (event_step (event.FromPeer from m) s) c)
+        → IsRightStep k (event.FromPeer from m) c (event_step (event.FromPeer from m) s)
     peer_fair from (peer.Parcel p) there = other_fair skew greatest k c s at h f (event.FromPeer from (peer.Parcel p)) there refl
     peer_fair from (peer.Prepare m) there = prepared_fair within from m there
     peer_fair from (peer.Vote m) there = voted_fair skew greatest k c s at h f commit_splits within from m there
     peer_fair from (peer.Decide m) there = decided_fair from m there
     peer_fair from (peer.Done m) there = done_fair from m there
 
-    pub begun_event_fair : (e : ServerEvent) → IsThere k e c → EndsFair (after_step k e (event_step e s) c)
+    pub begun_event_fair : (e : ServerEvent) → IsThere k e c → IsRightStep k e c (event_step e s)
     begun_event_fair (event.FromClient by m) there = client_fair by m there
     begun_event_fair (event.FromPeer from m) there = peer_fair from m there
     begun_event_fair event.Turn there = other_fair skew greatest k c s at h f event.Turn there tt
@@ -351,11 +358,11 @@ begins_fair skew greatest now k s c at before h f =
 -- as long as no clock is ahead of the server's by more than the skew
 pub server_keeps_fair : (skew greatest now k : ℕ) (e : ServerEvent) (s : Server) (c : Cluster) → slice_get c.servers k ≡ Some s
     → max s.last now ≤ greatest → greatest ≤ max s.last now + skew → IsThere k e c → ClusterHolds skew greatest c → EndsFair c
-    → EndsFair (after_step k e (step s now e) c)
+    → IsRightStep k e c (step s now e)
 server_keeps_fair skew greatest now k e s c at before within there h f =
     let then : Cluster = begun_at now k s c in
     let after : Cluster = after_step k e (step s now e) c in
-    subst (λ (ss : List Server). EndsFair (record after { servers = ss }))
+    subst (λ (ss : List Server). EndsFair (record after { servers = ss }) × IsFairAbort (record after { servers = ss }) (step s now e).out.note)
     (set_twice c.servers k (begun now s) (step s now e).server)
     (begun_event_fair skew greatest k then (begun now s) (get_here c.servers k s (begun now s) at)
     (begins_stands skew greatest now k s c at before h) (begins_fair skew greatest now k s c at before h f) within e

@@ -61,7 +61,7 @@ use Rattle.fs_serial.proofs.Transactions.PlacesAfter.{AreRelocked, relocked_not,
 use Rattle.fs_serial.proofs.Transactions.RoundsLocks.{round_by}
 use Rattle.fs_serial.proofs.Transactions.Tables.{in_with_leading}
 use Rattle.fs_serial.proofs.Transactions.Undecided.{up_asked, up_led}
-use Rattle.fs_serial.proofs.WholeRuns.EndedDecisions.{goes_on_fair}
+use Rattle.fs_serial.proofs.WholeRuns.EndedDecisions.{IsRightStep, goes_on_fair, noted_none}
 use Rattle.fs_serial.proofs.WholeRuns.EndedStay.{RowsLater, stepped_later}
 use Rattle.fs_serial.proofs.WholeRuns.EndedSteps.{EndFair, VotesFair, event_ending, event_fair, event_leading, event_one, event_still}
 use Rattle.fs_serial.proofs.WholeRuns.EndedVotes.{rounds_said, vote_fair}
@@ -211,35 +211,38 @@ module _ (skew greatest k : ℕ) (c : Cluster) (s : Server) (at : slice_get c.se
               absurd (omega (arith, few, count));
         }
 
-    refused : (w : Why) → EndsFair (after_step k asking (refuses by w s) c)
+    refused : (w : Why) → IsRightStep k asking c (refuses by w s)
     refused w =
         let x : Stepped = refuses by w s in
         let later : RowsLater c (after_step k asking x c) =
         stepped_later k c (after_step k asking x c) s s at h.places refl (parcels_then k c c.in_flight x.out.send refl refl) refl
         (relocked_not s.rows) in
-        event_fair skew greatest k c s at h f asking x (record {
-          later = later;
-          leading = event_leading skew greatest k c s at h f asking x later;
-          before = event_one skew greatest k c s at h f asking x;
-          ending = event_ending skew greatest k c s at h f asking x later;
-          votes = λ to v i. absurd (answer_votes by (answer.Led (led.Again w)) to v i);
-          answers = λ to z i number end now ends. elim i as (λ _. WasEnded (after_step k asking x c) to number end now) [
-            | inl e ↦
-                let word : msg.Answer (answer.Led z) ≡ msg.Answer (answer.Led (led.Again w)) = ap (λ (p : Peer × Msg). p.1) e in
-                let same : z ≡ led.Again w = cc in
-                let wrong : led.Ended number end now ≡ led.Again w = sym ends ∙ same in
-                absurd (cc wrong)
-            | inr y ↦ absurd y
-          ];
-        })
+        (
+          event_fair skew greatest k c s at h f asking x (record {
+            later = later;
+            leading = event_leading skew greatest k c s at h f asking x later;
+            before = event_one skew greatest k c s at h f asking x;
+            ending = event_ending skew greatest k c s at h f asking x later;
+            votes = λ to v i. absurd (answer_votes by (answer.Led (led.Again w)) to v i);
+            answers = λ to z i number end now ends. elim i as (λ _. WasEnded (after_step k asking x c) to number end now) [
+              | inl e ↦
+                  let word : msg.Answer (answer.Led z) ≡ msg.Answer (answer.Led (led.Again w)) = ap (λ (p : Peer × Msg). p.1) e in
+                  let same : z ≡ led.Again w = cc in
+                  let wrong : led.Ended number end now ≡ led.Again w = sym ends ∙ same in
+                  absurd (cc wrong)
+              | inr y ↦ absurd y
+            ];
+          }),
+          noted_none (after_step k asking x c) x.out.note (λ txn number end now e. absurd (cc e)),
+        )
 
-    pub lead_fair : EndsFair (after_step k asking (leads_unless (lead_refusal s m) by m s) c)
+    pub lead_fair : IsRightStep k asking c (leads_unless (lead_refusal s m) by m s)
     lead_fair = by_refusal (lead_refusal s m) refl
       where
-        by_refusal : (o : Option Why) → lead_refusal s m ≡ o → EndsFair (after_step k asking (leads_unless o by m s) c)
+        by_refusal : (o : Option Why) → lead_refusal s m ≡ o → IsRightStep k asking c (leads_unless o by m s)
         by_refusal None accepted =
             goes_on_fair skew greatest k c s at asking (λ items replied. refl) splits (note.Prepares (txn_of s)) begins r.send r.server
-            (begun skew greatest k c s at h splits by m comes accepted)
+            (λ txn number end now e. absurd (cc e)) (begun skew greatest k c s at h splits by m comes accepted)
             (waits_fair asking (note.Prepares (txn_of s)) begins r.send r.server begun_waits)
         by_refusal (Some w) why = refused w
 
@@ -296,20 +299,22 @@ module _ (skew greatest k : ℕ) (c : Cluster) (s : Server) (at : slice_get c.se
           | inr j ↦ old_votes number end now j
         ]
 
-    counted : is_moved m.vote ≡ false → EndsFair (after_step k voting (counts m.number m.vote l s) c)
+    counted : is_moved m.vote ≡ false → IsRightStep k voting c (counts m.number m.vote l s)
     counted stays =
         goes_on_fair skew greatest k c s at voting (λ items replied. refl) splits (note.Waits l.leader.txn) (with_vote m.number m.vote l) [] s
-        (counted_waits skew greatest k c s at h splits from m comes stays)
+        (λ txn number end now e. absurd (cc e)) (counted_waits skew greatest k c s at h splits from m comes stays)
         (only_waits (note.Waits l.leader.txn) (votes_after l.leader.votes m.number m.vote) l.at [] s (relocked_not s.rows) refl refl refl refl
         (λ x z. absurd z)
         (one_more m.vote (λ number end now v. f.coming g (found (is_between from k) c.in_flight g comes).0 m refl number end now v l its_led)))
 
     module _ (p : Part) (part : slice_get l.leader.parts m.number ≡ Some p) (moved : is_moved m.vote ≡ true) where
-      sought : (to : ℕ) → EndsFair (after_step k voting (seeks m.number to p l s) c)
-      sought to =
-          only_waits (note.Seeks l.leader.txn to) l.leader.votes (slice_set l.at m.number to)
-          (to_server to (ask_for l.leader.txn m.number l.leader.session p) ∷ []) s (relocked_not s.rows) refl refl refl refl
-          (one_ask l.leader.txn m.number l.leader.session p to) old_votes
+      sought : (to : ℕ) → IsRightStep k voting c (seeks m.number to p l s)
+      sought to = (
+        only_waits (note.Seeks l.leader.txn to) l.leader.votes (slice_set l.at m.number to)
+            (to_server to (ask_for l.leader.txn m.number l.leader.session p) ∷ []) s (relocked_not s.rows) refl refl refl refl
+            (one_ask l.leader.txn m.number l.leader.session p to) old_votes,
+        noted_none (after_step k voting (seeks m.number to p l s) c) (note.Seeks l.leader.txn to) (λ txn number end now e. absurd (cc e)),
+      )
 
       abbrev own_vote : Vote
       own_vote = vote_here s l.leader.session p
@@ -320,30 +325,30 @@ module _ (skew greatest k : ℕ) (c : Cluster) (s : Server) (at : slice_get c.se
           (up_led skew greatest c s here h l.leader.session s here l a.among refl leads.led leads.client.led) leads.client.led within p
           (subst (In p) leads.leader.parts (In-got l.leader.parts m.number p part))
 
-      own : is_mine s p.file ≡ true → EndsFair (after_step k voting (counts_own m.number p own_vote l s) c)
+      own : is_mine s p.file ≡ true → IsRightStep k voting c (counts_own m.number p own_vote l s)
       own mine =
           goes_on_fair skew greatest k c s at voting (λ items replied. refl) splits (note.Waits l.leader.txn)
           (with_vote m.number own_vote (asked_at m.number s.me l)) [] (after_own_vote l.leader.txn p own_vote s)
-          (own_waits skew greatest k c s at h splits from m comes p part moved mine)
+          (λ txn number end now e. absurd (cc e)) (own_waits skew greatest k c s at h splits from m comes p part moved mine)
           (only_waits (note.Waits l.leader.txn) (votes_after l.leader.votes m.number own_vote) (slice_set l.at m.number s.me) []
           (after_own_vote l.leader.txn p own_vote s) (voted_so own_vote l.leader.txn p.uses s.rows) refl refl refl refl (λ x z. absurd z)
           (one_more own_vote own_right))
 
-      home : (b : Bool) → is_mine s p.file ≡ b → EndsFair (after_step k voting
-          (cond b (counts_own m.number p own_vote l s) (seeks m.number (server_of s.map p.file) p l s)) c)
+      home : (b : Bool) → is_mine s p.file ≡ b → IsRightStep k voting c
+          (cond b (counts_own m.number p own_vote l s) (seeks m.number (server_of s.map p.file) p l s))
       home true mine = own mine
       home false off = sought (server_of s.map p.file)
 
-      sent : (to : ℕ) (b : Bool) → EndsFair (after_step k voting (cond b (comes_home m.number p l s) (seeks m.number to p l s)) c)
+      sent : (to : ℕ) (b : Bool) → IsRightStep k voting c (cond b (comes_home m.number p l s) (seeks m.number to p l s))
       sent to true = home (is_mine s p.file) refl
       sent to false = sought to
 
-    by_vote : (v : Vote) → m.vote ≡ v → EndsFair (after_step k voting (voted m.number v l s) c)
-    by_vote vote.Yes is = subst (λ v. EndsFair (after_step k voting (counts m.number v l s) c)) is (counted (ap is_moved is))
-    by_vote (vote.Ended n u w) is = subst (λ v. EndsFair (after_step k voting (counts m.number v l s) c)) is (counted (ap is_moved is))
-    by_vote (vote.PathsOut n) is = subst (λ v. EndsFair (after_step k voting (counts m.number v l s) c)) is (counted (ap is_moved is))
+    by_vote : (v : Vote) → m.vote ≡ v → IsRightStep k voting c (voted m.number v l s)
+    by_vote vote.Yes is = subst (λ v. IsRightStep k voting c (counts m.number v l s)) is (counted (ap is_moved is))
+    by_vote (vote.Ended n u w) is = subst (λ v. IsRightStep k voting c (counts m.number v l s)) is (counted (ap is_moved is))
+    by_vote (vote.PathsOut n) is = subst (λ v. IsRightStep k voting c (counts m.number v l s)) is (counted (ap is_moved is))
     by_vote (vote.Moved prefix to) is =
-        subst (λ o. EndsFair (after_step k voting (sent_on m.number to o l s) c)) (sym a.part) (sent a.wanted a.part (ap is_moved is) to (to == s.me))
+        subst (λ o. IsRightStep k voting c (sent_on m.number to o l s)) (sym a.part) (sent a.wanted a.part (ap is_moved is) to (to == s.me))
 
-    pub voted_fair : EndsFair (after_step k voting (vote_step m s) c)
-    voted_fair = subst (λ x. EndsFair (after_step k voting x c)) (sym (vote_is k from c s at h.led m a)) (by_vote m.vote refl)
+    pub voted_fair : IsRightStep k voting c (vote_step m s)
+    voted_fair = subst (IsRightStep k voting c) (sym (vote_is k from c s at h.led m a)) (by_vote m.vote refl)

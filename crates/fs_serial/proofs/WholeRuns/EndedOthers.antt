@@ -65,6 +65,7 @@ use Rattle.fs_serial.proofs.Transactions.OtherEvents.{other_leaves, parcel_fits}
 use Rattle.fs_serial.proofs.Transactions.OthersKeep.{taken_client}
 use Rattle.fs_serial.proofs.Transactions.StandsAfter.{view}
 use Rattle.fs_serial.proofs.WholeRuns.Addressing.{recall_free}
+use Rattle.fs_serial.proofs.WholeRuns.EndedDecisions.{IsRightStep, NamesNone, noted_none}
 use Rattle.fs_serial.proofs.WholeRuns.EndedStay.{RowsLater, count_own, counts_rise, same_later}
 use Rattle.fs_serial.proofs.WholeRuns.EndedSteps.{event_ending, event_fair, event_leading, event_one}
 use Rattle.fs_serial.proofs.WholeRuns.Views.{count_set}
@@ -132,6 +133,44 @@ event_free (event.FromPeer from (peer.Done m)) s none to e i = absurd (cc none)
 event_free event.Turn s none to e i = turn_free (lapsed_in s) s to e i
 event_free (event.Recall field) s none to e i = recalls_free (recalls_of (recalled_on field s)) (recall_all (recalled_on field s)) to e i
 event_free (event.Move prefix at) s none to e i = move_free (move_refusal s.records s.rows s.map s.me prefix at None) prefix at s to e i
+
+-- ## What is noted
+
+ship_noted : (by : Session) (entries : List Entry) (s : Server) (b : Bool)
+    → NamesNone (cond b (shipped by (ship_from by entries s [])) (strange s)).out.note
+ship_noted by entries s true txn number end now e = absurd (cc e)
+ship_noted by entries s false txn number end now e = absurd (cc e)
+
+turn_noted : (xs : List (List ℕ × Session)) (s : Server) → NamesNone (turn_over xs s).out.note
+turn_noted [] s txn number end now e = absurd (cc e)
+turn_noted (x ∷ xs) s txn number end now e = absurd (cc e)
+
+parcel_noted : (b : Bool) (p : Parcel) (s : Server) → NamesNone (parcel_at b p s).out.note
+parcel_noted true p s txn number end now e = absurd (cc e)
+parcel_noted false p s txn number end now e = absurd (cc e)
+
+move_noted : (o : Option MoveError) (prefix : List ℕ) (to : ℕ) (s : Server) → NamesNone (move_at o prefix to s).out.note
+move_noted None prefix to s txn number end now e = absurd (cc e)
+move_noted (Some why) prefix to s txn number end now e = absurd (cc e)
+
+event_noted : (x : ServerEvent) (s : Server) → IsNoneOfLed x → NamesNone (event_step x s).out.note
+event_noted (event.FromClient by (Ask items dir)) s none txn number end now e = absurd (cc e)
+event_noted (event.FromClient by (Renew pairs)) s none txn number end now e = absurd (cc e)
+event_noted (event.FromClient by (Release pairs)) s none txn number end now e = absurd (cc e)
+event_noted (event.FromClient by (Ship entries)) s none txn number end now e =
+    ship_noted by entries s (list_all (λ (x : Entry). tells_its_effects x.op) entries) txn number end now e
+event_noted (event.FromClient by (Lead m)) s none txn number end now e = absurd none
+event_noted (event.FromPeer from (peer.Parcel p)) s none txn number end now e = parcel_noted (fits_here p s) p s txn number end now e
+event_noted (event.FromPeer from (peer.Prepare m)) s none txn number end now e = absurd (cc none)
+event_noted (event.FromPeer from (peer.Vote m)) s none txn number end now e = absurd (cc none)
+event_noted (event.FromPeer from (peer.Decide m)) s none txn number end now e = absurd (cc none)
+event_noted (event.FromPeer from (peer.Done m)) s none txn number end now e = absurd (cc none)
+event_noted event.Turn s none txn number end now e = turn_noted (lapsed_in s) s txn number end now e
+event_noted (event.Recall field) s none txn number end now e = absurd (cc e)
+event_noted (event.Move prefix to) s none txn number end now e =
+    move_noted (move_refusal s.records s.rows s.map s.me prefix to None) prefix to s txn number end now e
+
+-- ## Words
 
 -- what is sent to a server is on its way to it
 pub flight_there : (k : ℕ) (ms : List (Peer × Msg)) (to : ℕ) (m : PeerMsg) → In (OfServer to, msg.Peer m) ms
@@ -267,16 +306,19 @@ module _ (skew greatest k : ℕ) (c : Cluster) (s : Server) (at : slice_get c.se
       (later_itself (given_by (counts_of c.servers) (with_all s c)) (with_all s c).rows)
   other_later (event.Move prefix to) there none = move_later prefix to
 
-  pub other_fair : EndsFair c → (e : ServerEvent) → IsThere k e c → IsNoneOfLed e → EndsFair (after_step k e (event_step e s) c)
+  pub other_fair : EndsFair c → (e : ServerEvent) → IsThere k e c → IsNoneOfLed e → IsRightStep k e c (event_step e s)
   other_fair f e there none =
       let x : Stepped = event_step e s in
       let leaves : LeavesLed k e s x c = other_leaves skew greatest k c s at h e there none in
       let later : RowsLater c (after_step k e x c) = other_later e there none in
-      event_fair skew greatest k c s at h f e x (record {
-        later = later;
-        leading = λ l i. event_leading skew greatest k c s at h f e x later l (subst (In l) leaves.leading i);
-        before = λ l o i. event_one skew greatest k c s at h f e x l o (subst (In l) leaves.leading i);
-        ending = λ y i. event_ending skew greatest k c s at h f e x later y (subst (In y) leaves.ending i);
-        votes = λ to m i. absurd (vote_told k x.out.send leaves.words to m i);
-        answers = λ to z i. absurd (event_free e s none to z i);
-      })
+      (
+        event_fair skew greatest k c s at h f e x (record {
+          later = later;
+          leading = λ l i. event_leading skew greatest k c s at h f e x later l (subst (In l) leaves.leading i);
+          before = λ l o i. event_one skew greatest k c s at h f e x l o (subst (In l) leaves.leading i);
+          ending = λ y i. event_ending skew greatest k c s at h f e x later y (subst (In y) leaves.ending i);
+          votes = λ to m i. absurd (vote_told k x.out.send leaves.words to m i);
+          answers = λ to z i. absurd (event_free e s none to z i);
+        }),
+        noted_none (after_step k e x c) x.out.note (event_noted e s none),
+      )
