@@ -28,3 +28,4 @@ pub mod EndedDecisions
 pub mod EndedLed
 pub mod EndedEvents
 pub mod EndedClients
+pub mod EndedRuns

@@ -2,6 +2,7 @@
 ghost use Rattle.std.specs.Prelude.{Option, length, ◌≡◌, ◌≢◌, ◌<◌, ◌≤◌, ◌+◌, ℕ, max, slice_get, Bool, true, false, List, [], ◌∷◌, ◌++◌, Some, None};
 ghost use Rattle.std.specs.List.{list_all};
 ghost use Rattle.fs_ident.specs.In.{In};
+ghost use Rattle.fs_ident.specs.declared.actor.LeaseNo.{LeaseNo};
 ghost use Rattle.fs_ident.specs.declared.actor.Session.{Session};
 ghost use Rattle.fs_field.specs.Conflict.{NoConflict};
 ghost use Rattle.fs_field.specs.declared.field.Field.TheVariants.{Other};
@@ -19,7 +20,7 @@ ghost use Rattle.fs_client.specs.declared.state.Client.{Client};
 ghost use Rattle.fs_model.specs.declared.op.Op.{Op};
 ghost use Rattle.fs_model.specs.declared.reply.Reply.{Reply};
 ghost use Rattle.fs_msg.specs.declared.answer.Answer.{Answer};
-ghost use Rattle.fs_msg.specs.declared.answer.Answer.TheVariants.{Granted};
+ghost use Rattle.fs_msg.specs.declared.answer.Answer.TheVariants.{Granted, Led};
 ghost use Rattle.fs_msg.specs.declared.answer.Grant.{Grant};
 ghost use Rattle.fs_msg.specs.declared.client_msg.ClientMsg.TheVariants.{Ship};
 ghost use Rattle.fs_msg.specs.declared.end.End.{End};
@@ -30,6 +31,7 @@ ghost use Rattle.fs_record.specs.Records.{nodes_of};
 ghost use Rattle.fs_record.specs.ValueOf.{selves_in, value_of};
 ghost use Rattle.fs_msg.specs.declared.peer_msg.PeerMsg.TheVariants.{Parcel as OfParcel};
 ghost use Rattle.fs_parcel.specs.Parcel.{move_refusal};
+ghost use Rattle.fs_record.specs.declared.led_end.LedEnd.TheVariants as led;
 ghost use Rattle.fs_record.specs.declared.parcel.Parcel.{Parcel};
 ghost use Rattle.fs_server.specs.Moves.{fits_here, hands_over, parcel_at};
 ghost use Rattle.fs_server.specs.Reaps.{has_own, reap_item, with_reap};
@@ -46,6 +48,7 @@ ghost use Rattle.fs_server.specs.declared.state.Server.{Server};
 ghost use Rattle.fs_serial.specs.Client.{ClientFits};
 ghost use Rattle.fs_serial.specs.Cluster.{CanCome, ClientEvent, Cluster, IsThere, after_client, after_server, after_step, first_cluster};
 ghost use Rattle.fs_serial.specs.Cluster.ClientEvent.{Hears};
+ghost use Rattle.fs_serial.specs.EndedLeases.{EndsFair, IsFairAbort, WasEnded};
 ghost use Rattle.fs_serial.specs.Laws.{GiftIsRelied, GiftIsTold, GiftKeepsParts, GiftReturnsNone};
 ghost use Rattle.fs_serial.specs.Parts.{AllHold, ServersFit, ServersHold, SessionFits, with_client, with_replies};
 ghost use Rattle.fs_serial.specs.Settled.{HasLeaseAs, Settled, acknowledged, settled, settled_now};
@@ -202,6 +205,31 @@ pub fn refusals_are_fair()
         (c : Cluster) → slice_get c.servers k ≡ Some s → greatest ≤ now + skew →
         IsThere k (FromClient by (Ship entries)) c → ClusterHolds skew greatest c →
         IsFairStep now k by entries s c }
+{}
+
+/// Where it is told that an operation which was to be led is refused since a lease had ended, its session waits for just that operation,
+/// which used that lease; no server has its row, nor will; and it had ended at the reading that is told. So it is of each vote that is
+/// counted or comes, of each end that is kept or comes to its session, of what a server notes, and of what a client hears, as long as
+/// no clock is ahead of a server's by more than the skew.
+pub fn what_is_led_ends_fairly()
+    ensures server { (skew greatest now k : ℕ) (e : ServerEvent) (s : Server) (c : Cluster) →
+        slice_get c.servers k ≡ Some s → max s.last now ≤ greatest →
+        greatest ≤ max s.last now + skew → IsThere k e c → ClusterHolds skew greatest c →
+        EndsFair c → EndsFair (after_server now k e c) }
+    ensures client { (skew greatest now : ℕ) (c : Cluster) (by : Session) →
+        ClusterHolds skew greatest c → EndsFair c → (e : ClientEvent) → CanCome by e c →
+        EndsFair (after_client by now e c) }
+    ensures first { (servers skew term : ℕ) → EndsFair (first_cluster servers skew term) }
+    ensures run { (skew greatest : ℕ) (events : List Dated) (c : Cluster) →
+        ClusterHolds skew greatest c → EndsFair c → IsRun skew greatest events c →
+        EndsFair (run events c) }
+    ensures noted { (skew greatest now k : ℕ) (e : ServerEvent) (s : Server) (c : Cluster) →
+        slice_get c.servers k ≡ Some s → max s.last now ≤ greatest →
+        greatest ≤ max s.last now + skew → IsThere k e c → ClusterHolds skew greatest c →
+        EndsFair c → IsFairAbort (after_server now k e c) (step s now e).out.note }
+    ensures heard { (c : Cluster) (by : Session) (from : ℕ) (number : LeaseNo) (end now : ℕ) →
+        CanCome by (Hears from (Led (led.Ended number end now))) c → EndsFair c →
+        WasEnded c by number end now }
 {}
 
 /// Of a log that is handed in where its entries belong, an entry is admitted in that very event where the rows of the leases that it

@@ -17,7 +17,8 @@ pub use law::{
     a_standing_entry_is_admitted, an_admitted_entry_keeps_the_parts, every_run_is_one_serial_run,
     every_run_is_orderly, every_run_keeps_all_parts, nothing_that_comes_is_strange,
     refusals_are_fair, rows_are_without_conflict, the_clients_events_keep_all_parts,
-    the_first_cluster_has_all_parts, the_servers_events_keep_all_parts, what_was_promised_is_so,
+    the_first_cluster_has_all_parts, the_servers_events_keep_all_parts, what_is_led_ends_fairly,
+    what_was_promised_is_so,
 };
 pub use locks::a_lock_keeps_the_parts;
 pub use space::joined;

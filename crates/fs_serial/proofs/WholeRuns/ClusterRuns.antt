@@ -108,7 +108,7 @@ at_server skew greatest now k e c (Some s) at h there =
     server_keeps skew (max greatest now) now k e s c at (omega arith) there
     (cluster_later skew greatest (max greatest now) c (omega arith) h)
 
-event_keeps : (skew greatest now : ℕ) (e : ClusterEvent) (c : Cluster) → ClusterHolds skew greatest c → CanHappen e c
+pub event_keeps : (skew greatest now : ℕ) (e : ClusterEvent) (c : Cluster) → ClusterHolds skew greatest c → CanHappen e c
     → greatest ≤ now + skew
     → ClusterHolds skew (max greatest now) (after_event now e c)
 event_keeps skew greatest now (AtServer k e) c h can within = at_server skew greatest now k e c (slice_get c.servers k) refl h can

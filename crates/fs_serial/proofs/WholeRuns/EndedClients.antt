@@ -1,13 +1,12 @@
 -- Every event of a client keeps what is told of leases that had ended right: the session waits until it hears how its operation ended.
-use Rattle.std.proofs.Common.{◌≡◌, ◌==◌, ◌+◌, ◌≤◌, ℕ, Bool, true, false, not, List, [], ◌∷◌, ◌++◌, length, cond, refl, sym, ap, ◌∙◌, subst, inl, inr, arith, length-append}
-use Rattle.std.specs.Prelude.{Option, Some, None, slice_get}
+use Rattle.std.proofs.Common.{◌≡◌, ◌==◌, ◌+◌, ◌≤◌, ℕ, Bool, true, false, not, List, ◌∷◌, ◌++◌, length, cond, refl, sym, ap, ◌∙◌, subst}
+use Rattle.std.proofs.Common.{inl, inr, arith, length-append}
+use Rattle.std.specs.Prelude.{Option, Some, None}
 use Rattle.fs_ident.specs.In.{In}
 use Rattle.fs_ident.specs.declared.actor.LeaseNo.{LeaseNo}
 use Rattle.fs_ident.specs.declared.actor.Session.{Session}
-use Rattle.fs_ident.proofs.Passing.{found}
 use Rattle.fs_ident.proofs.Same.{one_session}
-use Rattle.fs_ident.proofs.Standing.{In-append, In-got, In-mapped}
-use Rattle.fs_field.specs.Table.{same_txn}
+use Rattle.fs_ident.proofs.Standing.{In-append, In-mapped}
 use Rattle.fs_record.specs.declared.led_end.LedEnd.TheVariants as led
 use Rattle.fs_model.specs.declared.op.Op.{Op}
 use Rattle.fs_msg.specs.declared.answer.Answer.{Answer}
@@ -21,7 +20,6 @@ use Rattle.fs_client.specs.declared.led.Led.{Led}
 use Rattle.fs_client.specs.declared.plan.Plan.{Plan}
 use Rattle.fs_client.specs.declared.state.Client.{Client}
 use Rattle.fs_server.specs.declared.state.Server.{Server}
-use Rattle.fs_txn.specs.Leading.{leading_of}
 use Rattle.fs_txn.specs.declared.leading.Leading.{Leading}
 use Rattle.fs_txn.proofs.Keys.{kept_in}
 use Rattle.fs_serial.specs.Cluster.{CanCome, ClientEvent, Cluster, Lines, after_client, after_plan, is_with, without_first}
@@ -30,7 +28,7 @@ use Rattle.fs_serial.specs.EndedLeases.{EndsFair, WasEnded}
 use Rattle.fs_serial.specs.Exchange.{OneExchange, due, is_recall}
 use Rattle.fs_serial.specs.Leading.{IsLedBy, LeadsFor, LeavesLedClient}
 use Rattle.fs_serial.specs.Owed.{ends_in, owed_to}
-use Rattle.fs_serial.specs.Seen.{ClusterHolds, counts_of, world_of}
+use Rattle.fs_serial.specs.Seen.{ClusterHolds}
 use Rattle.fs_serial.specs.World.{pushed}
 use Rattle.fs_serial.proofs.DecidedEffects.OwnApart.{one_each}
 use Rattle.fs_serial.proofs.Lists.Journals.{session_itself}
@@ -96,7 +94,8 @@ module _ (skew greatest now : ℕ) (c : Cluster) (by : Session) (h : ClusterHold
   asked_some a i = by_exchange (c.lines by).client.exchange refl one
     where
       by_exchange : (o : Option Exchange) → (c.lines by).client.exchange ≡ o
-          → OneExchange (c.lines by).client o (ends_in c by).up (ends_in c by).down → (x : Exchange) × ((c.lines by).client.exchange ≡ Some x)
+          → OneExchange (c.lines by).client o (ends_in c by).up (ends_in c by).down
+          → (x : Exchange) × ((c.lines by).client.exchange ≡ Some x)
       by_exchange (Some x) e q = (x, e)
       by_exchange None e q =
           let all : length (due (ends_in c by).down) ≡ length (due (owed_to by c.servers)) + length (due (messages down)) =
@@ -149,7 +148,8 @@ module _ (skew greatest now : ℕ) (c : Cluster) (by : Session) (h : ClusterHold
         by_session true e i =
             let its : by ≡ y = one_session by y e in
             let a : Answer = answer.Led (led.Ended number end reading) in
-            let there : In (j, a) rest = subst (λ (z : Lines). In (j, a) z.down) own (subst (λ z. In (j, a) (then.lines z).down) (sym its) i) in
+            let there : In (j, a) rest = subst (λ (z : Lines). In (j, a) z.down) own
+            (subst (λ z. In (j, a) (then.lines z).down) (sym its) i) in
             let q = told_waits number end reading j there in
             subst (λ z. WasEnded then z number end reading) its
             (still by number end reading (ap (λ (z : Lines). z.client.led) own ∙ q.1) q.0)
@@ -206,7 +206,8 @@ module _ (skew greatest now : ℕ) (c : Cluster) (by : Session) (h : ClusterHold
         absurd (omega (arith, two, few, same))
 
     hears_fair : EndsFair (after_client by now (Hears from a) c)
-    hears_fair = plan_fair (without_first (is_with from) down) (answer_plan client now from a) (client_waits by c few_one now (Hears from a) can)
+    hears_fair = plan_fair (without_first (is_with from) down) (answer_plan client now from a)
+        (client_waits by c few_one now (Hears from a) can)
         (λ number end reading j i.
         let e : Answer = answer.Led (led.Ended number end reading) in
         let recall : is_recall a ≡ true = only_recalls e j refl i (is_recall a) refl in

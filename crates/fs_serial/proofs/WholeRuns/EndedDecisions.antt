@@ -1,6 +1,6 @@
 -- A transaction is decided: where it ends since a lease had ended, that is right of a vote that was counted.
-use Rattle.std.proofs.Common.{◌≡◌, ◌≤◌, ℕ, Bool, true, false, List, [], ◌∷◌, ◌++◌, cond, refl, sym, ap, ◌∙◌, subst, inl, inr, arith}
-use Rattle.std.specs.Prelude.{Option, Some, None, slice_get, slice_set}
+use Rattle.std.proofs.Common.{◌≡◌, ℕ, Bool, true, false, List, [], ◌∷◌, ◌++◌, cond, refl, sym, ap, ◌∙◌, subst, inl, inr, arith}
+use Rattle.std.specs.Prelude.{Option, Some, None, slice_get}
 use Rattle.fs_ident.specs.In.{In}
 use Rattle.fs_ident.specs.declared.actor.LeaseNo.{LeaseNo}
 use Rattle.fs_ident.specs.declared.actor.Peer.{Peer}
@@ -8,7 +8,6 @@ use Rattle.fs_ident.specs.declared.actor.Peer.TheVariants.{Client as OfSession, 
 use Rattle.fs_ident.specs.declared.actor.Session.{Session}
 use Rattle.fs_ident.specs.declared.actor.TxnNo.{TxnNo}
 use Rattle.fs_ident.proofs.Passing.{found}
-use Rattle.fs_ident.proofs.Standing.{In-got}
 use Rattle.fs_field.specs.Table.{same_txn}
 use Rattle.fs_field.specs.declared.vote.Vote.{Vote}
 use Rattle.fs_field.specs.declared.vote.Vote.TheVariants as vote
@@ -29,7 +28,7 @@ use Rattle.fs_server.specs.declared.event.ServerEvent.{ServerEvent}
 use Rattle.fs_server.specs.declared.state.Server.{Server}
 use Rattle.fs_txn.specs.Deciding as deciding
 use Rattle.fs_txn.specs.Deciding.{agreed, commit, decision, first_end, needs_path, reply_of, told_effects, unless_ended}
-use Rattle.fs_txn.specs.Leading.{elsewhere, end_of_decision, leading_of, without_leading}
+use Rattle.fs_txn.specs.Leading.{elsewhere, end_of_decision, leading_of}
 use Rattle.fs_txn.specs.Votes.{Votes, is_full}
 use Rattle.fs_txn.specs.declared.decision.Decision.{Decision}
 use Rattle.fs_txn.specs.declared.leader.Leader.{Leader}
@@ -45,8 +44,8 @@ use Rattle.fs_serial.proofs.Lists.SetAt.{get_here}
 use Rattle.fs_serial.proofs.Places.RelockedRows.{home_relock}
 use Rattle.fs_serial.proofs.Transactions.Tables.{in_with_ending, in_without_leading, leading_set}
 use Rattle.fs_serial.proofs.WholeRuns.EndedStay.{RowsLater, counts_rise, relocked_later}
-use Rattle.fs_serial.proofs.WholeRuns.EndedSteps.{EndFair, old_ending, old_leading, one_leading, step_fair, still}
-use Rattle.fs_serial.proofs.WholeRuns.LedEvents.{behind, first, same_cluster}
+use Rattle.fs_serial.proofs.WholeRuns.EndedSteps.{EndFair, old_ending, old_leading, one_leading, step_fair}
+use Rattle.fs_serial.proofs.WholeRuns.LedEvents.{behind, same_cluster}
 
 -- ## What is decided
 
@@ -136,7 +135,8 @@ module _ (skew greatest k : ℕ) (c : Cluster) (s : Server) (at : slice_get c.se
 
   pub end_right : EndFair then l.leader.session (end_of_decision d)
   end_right number end now e =
-      old_leading skew greatest k c s at h f c.in_flight c.lines x.server x.out.send journal replied later (λ y. refl) l there number end now
+      old_leading skew greatest k c s at h f c.in_flight c.lines x.server x.out.send journal replied later (λ y. refl) l there
+      number end now
       (decision_names l.leader number end now e)
 
   pub concluded_fair : EndsFair then
@@ -202,8 +202,7 @@ module _ (skew greatest k : ℕ) (c : Cluster) (s : Server) (at : slice_get c.se
           let now : slice_get before.servers k ≡ Some waiting = get_here c.servers k s waiting at in
           let led : leading_of l.leader.txn waiting.leading ≡ Some l = leading_set l t.leading in
           let last : ServerNote = end_note l.leader.txn (end_of_decision (decision l.leader None)) in
-          subst (λ (d : Cluster). EndsFair d × IsFairAbort d last) (same_cluster skew greatest k c s at e tells splits n l sent t)
-          (
+          subst (λ (d : Cluster). EndsFair d × IsFairAbort d last) (same_cluster skew greatest k c s at e tells splits n l sent t) (
             concluded_fair skew greatest k before waiting now h f l led,
             end_noted (after_concluded k l waiting before) l.leader.txn l.leader.session (end_of_decision (decision l.leader None))
                 (end_right skew greatest k before waiting now h f l led),

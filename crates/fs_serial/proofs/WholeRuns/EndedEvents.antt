@@ -1,6 +1,6 @@
 -- Every event of every server keeps what is told of leases that had ended right.
-use Rattle.std.proofs.Common.{◌≡◌, ◌≤◌, ◌==◌, ℕ, ◌+◌, max, true, false, List, [], ◌∷◌, ◌++◌, cond, append-nil, refl, sym, ap, ap₂, ◌∙◌, subst, inl, inr, arith}
-use Rattle.std.specs.Prelude.{Option, Some, None, slice_get, slice_set}
+use Rattle.std.proofs.Common.{◌≡◌, ◌≤◌, ℕ, ◌+◌, max, List, [], ◌∷◌, cond, refl, sym, ap, ◌∙◌, subst, inl, inr, arith}
+use Rattle.std.specs.Prelude.{Option, Some, None, slice_get}
 use Rattle.fs_ident.specs.In.{In}
 use Rattle.fs_ident.specs.declared.actor.LeaseNo.{LeaseNo}
 use Rattle.fs_ident.specs.declared.actor.Peer.{Peer}
@@ -11,7 +11,6 @@ use Rattle.fs_ident.proofs.Passing.{found}
 use Rattle.fs_ident.proofs.Standing.{In-got}
 use Rattle.fs_field.specs.Table.{same_txn}
 use Rattle.fs_field.specs.declared.row.Row.{Row}
-use Rattle.fs_field.specs.declared.used.Part.{Part}
 use Rattle.fs_field.specs.declared.vote.Vote.{Vote}
 use Rattle.fs_field.specs.declared.vote.Vote.TheVariants as vote
 use Rattle.fs_record.specs.declared.led_end.LedEnd.{LedEnd}
@@ -31,9 +30,8 @@ use Rattle.fs_msg.specs.declared.server_note.ServerNote.{ServerNote}
 use Rattle.fs_msg.specs.declared.server_note.ServerNote.TheVariants as note
 use Rattle.fs_msg.specs.declared.voted.Voted.{Voted as VotedMsg}
 use Rattle.fs_server.specs.Counts.{done_step, done_with}
-use Rattle.fs_server.specs.Follows.{after_decision, after_vote, applies, decide_step, prepare_step, ready_of, to_server, vote_here, votes}
+use Rattle.fs_server.specs.Follows.{after_decision, after_vote, applies, decide_step, prepare_step, ready_of, vote_here, votes}
 use Rattle.fs_server.specs.Leads.{lead_refusal, lead_step, leads_unless}
-use Rattle.fs_server.specs.LeadingLaws.{CommitSplits}
 use Rattle.fs_server.specs.Server.{Stepped, begun, strange, to_session}
 use Rattle.fs_server.specs.Step.{event_step, step}
 use Rattle.fs_server.specs.declared.event.ServerEvent.{ServerEvent}
@@ -46,22 +44,21 @@ use Rattle.fs_txn.specs.Ready.{is_awaited, without_prepared}
 use Rattle.fs_txn.specs.Stages.{Wanted}
 use Rattle.fs_txn.specs.declared.leading.Ending.{Ending}
 use Rattle.fs_txn.specs.declared.leading.Leading.{Leading}
-use Rattle.fs_txn.specs.declared.ready.Ready.{Ready}
 use Rattle.fs_txn.proofs.Keys.{txn_is}
-use Rattle.fs_serial.specs.Cluster.{Cluster, InFlight, IsThere, after_server_at, after_step, in_flight_from, is_between, parcels_of, without_first}
+use Rattle.fs_serial.specs.Cluster.{Cluster, IsThere, after_step, in_flight_from, is_between, parcels_of, without_first}
 use Rattle.fs_serial.specs.EndedLeases.{EndsFair, IsFairAbort, WasEnded}
 use Rattle.fs_serial.specs.Leading.{IsLeading}
-use Rattle.fs_serial.specs.Seen.{ClusterHolds, counts_of, given_at}
+use Rattle.fs_serial.specs.Seen.{ClusterHolds}
 use Rattle.fs_serial.specs.Words.{ended_in, key_of, leading_at, led_in}
 use Rattle.fs_serial.proofs.Lists.SetAt.{get_here, set_twice}
-use Rattle.fs_serial.proofs.Lists.Servers.{In_at}
 use Rattle.fs_serial.proofs.Returns.Lapsing.{begun_at, keep, there_begun}
 use Rattle.fs_serial.proofs.Returns.Lapsing as lapsing
-use Rattle.fs_serial.proofs.Transactions.AwaitedWords.{IsAskedBy, IsAwaitedBy, asked_by, decide_awaited, done_awaited, done_is, prepare_awaited, prepare_here}
+use Rattle.fs_serial.proofs.Transactions.AwaitedWords.{IsAskedBy, IsAwaitedBy, asked_by, decide_awaited, done_awaited, done_is}
+use Rattle.fs_serial.proofs.Transactions.AwaitedWords.{prepare_awaited, prepare_here}
 use Rattle.fs_serial.proofs.Transactions.Desks.{each_after, led_set}
 use Rattle.fs_serial.proofs.Transactions.OtherSteps.{begins_stands}
 use Rattle.fs_serial.proofs.Transactions.OwnersOfLocks.{in_range}
-use Rattle.fs_serial.proofs.Transactions.PlacesAfter.{AreRelocked, locked_so, relocked_not, unlocked_so, unlocked_unless, word_taken}
+use Rattle.fs_serial.proofs.Transactions.PlacesAfter.{AreRelocked, relocked_not, unlocked_so, unlocked_unless, word_taken}
 use Rattle.fs_serial.proofs.Transactions.Tables.{in_with_ending}
 use Rattle.fs_serial.proofs.Transactions.Undecided.{up_led}
 use Rattle.fs_serial.proofs.WholeRuns.EndedDecisions.{IsRightStep, noted_none}
@@ -98,7 +95,8 @@ module _ (skew greatest k : ℕ) (c : Cluster) (s : Server) (at : slice_get c.se
 
   -- ## A part is asked for
 
-  module _ (within : greatest ≤ s.last + skew) (from : ℕ) (m : PrepareMsg) (comes : IsThere k (event.FromPeer from (peer.Prepare m)) c) where
+  module _ (within : greatest ≤ s.last + skew) (from : ℕ) (m : PrepareMsg)
+      (comes : IsThere k (event.FromPeer from (peer.Prepare m)) c) where
     abbrev asks : ServerEvent
     asks = event.FromPeer from (peer.Prepare m)
 
@@ -244,7 +242,10 @@ module _ (skew greatest k : ℕ) (c : Cluster) (s : Server) (at : slice_get c.se
         (quiet : in_flight_from k ms ≡ []) (no_vote : (to : ℕ) (v : VotedMsg) → In (OfServer to, msg.Peer (peer.Vote v)) ms → ⊥)
         (its : (to : Session) (z : LedEnd) → In (OfSession to, msg.Answer (answer.Led z)) ms → (to ≡ y.session) × (z ≡ y.end)) where
       abbrev done : Stepped
-      done = record { server = record s { rows = rows; ending = with_ending left s.ending }; out = record { note = n; send = ms; admitted = [] } }
+      done = record {
+        server = record s { rows = rows; ending = with_ending left s.ending };
+        out = record { note = n; send = ms; admitted = [] };
+      }
 
       abbrev done_then : Cluster
       done_then = after_step k doing done c
@@ -253,7 +254,8 @@ module _ (skew greatest k : ℕ) (c : Cluster) (s : Server) (at : slice_get c.se
       done_later =
           stepped_later k c done_then s done.server at h.places refl
           (parcels_then k c (without_first (is_between from k) c.in_flight) ms
-          (word_taken (is_between from k) c.in_flight (record { from = from; to = k; message = peer.Done m }) comes refl) (ap parcels_of quiet))
+          (word_taken (is_between from k) c.in_flight (record { from = from; to = k; message = peer.Done m }) comes refl)
+          (ap parcels_of quiet))
           refl relocked
 
       its_end : EndFair done_then y.session y.end
@@ -276,7 +278,8 @@ module _ (skew greatest k : ℕ) (c : Cluster) (s : Server) (at : slice_get c.se
 
     by_awaits : (ys : List (ℕ × ℕ)) → IsRightStep k doing c (done_with left ys s)
     by_awaits [] = (
-      done_right (note.Ends y.txn) (rows_unlocked y.txn s.rows) (unlocked_so y.txn s.rows) (to_session y.session (answer.Led y.end) ∷ []) refl
+      done_right (note.Ends y.txn) (rows_unlocked y.txn s.rows) (unlocked_so y.txn s.rows)
+          (to_session y.session (answer.Led y.end) ∷ []) refl
           (answer_votes y.session (answer.Led y.end)) told_it,
       noted_none (after_step k doing (done_with left [] s) c) (note.Ends y.txn) (λ txn number end now e. absurd (cc e)),
     )
@@ -340,7 +343,8 @@ begins_fair skew greatest now k s c at before h f =
     let then : Cluster = begun_at now k s c in
     let later : RowsLater c then = fewer_later c then (keep greatest now k s c at before h.places)
     (lapsing.rows_are greatest now k s c at before h.places) (counts_rise c.servers k s (begun now s) at (omega arith)) in
-    let still : (by : Session) (number : LeaseNo) (end reading : ℕ) → WasEnded c by number end reading → WasEnded then by number end reading =
+    let still : (by : Session) (number : LeaseNo) (end reading : ℕ) → WasEnded c by number end reading
+    → WasEnded then by number end reading =
     λ by number end reading. ended_stays c then by number end reading later refl in
     let here : In s c.servers = In-got c.servers k s at in
     record {
@@ -362,7 +366,8 @@ pub server_keeps_fair : (skew greatest now k : ℕ) (e : ServerEvent) (s : Serve
 server_keeps_fair skew greatest now k e s c at before within there h f =
     let then : Cluster = begun_at now k s c in
     let after : Cluster = after_step k e (step s now e) c in
-    subst (λ (ss : List Server). EndsFair (record after { servers = ss }) × IsFairAbort (record after { servers = ss }) (step s now e).out.note)
+    subst (λ (ss : List Server).
+    EndsFair (record after { servers = ss }) × IsFairAbort (record after { servers = ss }) (step s now e).out.note)
     (set_twice c.servers k (begun now s) (step s now e).server)
     (begun_event_fair skew greatest k then (begun now s) (get_here c.servers k s (begun now s) at)
     (begins_stands skew greatest now k s c at before h) (begins_fair skew greatest now k s c at before h f) within e

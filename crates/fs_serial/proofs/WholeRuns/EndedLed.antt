@@ -1,5 +1,6 @@
 -- An operation is led, and its votes are counted: what is told of leases that had ended is right then.
-use Rattle.std.proofs.Common.{◌≡◌, ◌≤◌, ◌⊎◌, ◌==◌, ℕ, ◌+◌, Bool, true, false, List, [], ◌∷◌, ◌++◌, cond, append-nil, refl, sym, ap, ap₂, ◌∙◌, subst, inl, inr, arith}
+use Rattle.std.proofs.Common.{◌≡◌, ◌≤◌, ◌⊎◌, ◌==◌, ℕ, ◌+◌, Bool, true, false, List, [], ◌∷◌, ◌++◌, cond, append-nil, refl, sym, ap, ap₂}
+use Rattle.std.proofs.Common.{◌∙◌, subst, inl, inr, arith}
 use Rattle.std.specs.Prelude.{Option, Some, None, slice_get, slice_set}
 use Rattle.fs_ident.specs.In.{In}
 use Rattle.fs_ident.specs.declared.actor.LeaseNo.{LeaseNo}
@@ -29,11 +30,11 @@ use Rattle.fs_msg.specs.declared.prepare.Prepare.{Prepare as PrepareMsg}
 use Rattle.fs_msg.specs.declared.server_note.ServerNote.{ServerNote}
 use Rattle.fs_msg.specs.declared.server_note.ServerNote.TheVariants as note
 use Rattle.fs_msg.specs.declared.voted.Voted.{Voted as VotedMsg}
-use Rattle.fs_client.specs.Led.{lead_of}
 use Rattle.fs_client.specs.declared.led.Led.{Led}
 use Rattle.fs_server.specs.Begins.{Round, first_round, leader_with, parts_in, round_of, rounds, txn_of}
 use Rattle.fs_server.specs.Concludes.{waits}
-use Rattle.fs_server.specs.Counts.{after_own_vote, ask_for, asked_at, comes_home, counts, counts_own, seeks, sent_on, vote_step, voted, with_vote}
+use Rattle.fs_server.specs.Counts.{after_own_vote, ask_for, asked_at, comes_home, counts, counts_own, seeks, sent_on, vote_step, voted}
+use Rattle.fs_server.specs.Counts.{with_vote}
 use Rattle.fs_server.specs.Follows.{to_server, vote_here}
 use Rattle.fs_server.specs.Leads.{lead_refusal, leads_unless, refuses}
 use Rattle.fs_server.specs.LeadingLaws.{CommitSplits}
@@ -43,7 +44,6 @@ use Rattle.fs_server.specs.declared.event.ServerEvent.TheVariants as event
 use Rattle.fs_server.specs.declared.state.Server.{Server}
 use Rattle.fs_txn.specs.Leading.{leading_of}
 use Rattle.fs_txn.specs.Votes.{Votes, is_moved, votes_after}
-use Rattle.fs_txn.specs.declared.leading.Ending.{Ending}
 use Rattle.fs_txn.specs.declared.leading.Leading.{Leading}
 use Rattle.fs_serial.specs.Cluster.{Cluster, InFlight, IsThere, after_step, in_flight_from, is_between, parcels_of, without_arrived}
 use Rattle.fs_serial.specs.EndedLeases.{EndsFair, WasEnded}
@@ -63,7 +63,7 @@ use Rattle.fs_serial.proofs.Transactions.Tables.{in_with_leading}
 use Rattle.fs_serial.proofs.Transactions.Undecided.{up_asked, up_led}
 use Rattle.fs_serial.proofs.WholeRuns.EndedDecisions.{IsRightStep, goes_on_fair, noted_none}
 use Rattle.fs_serial.proofs.WholeRuns.EndedStay.{RowsLater, stepped_later}
-use Rattle.fs_serial.proofs.WholeRuns.EndedSteps.{EndFair, VotesFair, event_ending, event_fair, event_leading, event_one, event_still}
+use Rattle.fs_serial.proofs.WholeRuns.EndedSteps.{VotesFair, event_ending, event_fair, event_leading, event_one, event_still}
 use Rattle.fs_serial.proofs.WholeRuns.EndedVotes.{rounds_said, vote_fair}
 use Rattle.fs_serial.proofs.WholeRuns.LedQuestions as questions
 use Rattle.fs_serial.proofs.WholeRuns.LedQuestions.{asks, begun, rounds_relock}
@@ -85,7 +85,8 @@ ask_answers : (m : Peer × Msg) → IsAsk m → (to : Session) (z : LedEnd) → 
 ask_answers m a to z e =
     let wrong : OfSession to ≡ OfServer a.to = ap (λ (p : Peer × Msg). p.0) (e ∙ a.is) in absurd (cc wrong)
 
-one_ask : (txn : TxnNo) (number : ℕ) (by : Session) (p : Part) (to : ℕ) (m : Peer × Msg) → In m (to_server to (ask_for txn number by p) ∷ []) → IsAsk m
+one_ask : (txn : TxnNo) (number : ℕ) (by : Session) (p : Part) (to : ℕ) (m : Peer × Msg)
+    → In m (to_server to (ask_for txn number by p) ∷ []) → IsAsk m
 one_ask txn number by p to m (inl e) = record { to = to; prepare = _; is = e }
 one_ask txn number by p to m (inr z) = absurd z
 
@@ -97,10 +98,11 @@ rounds_asks txn number by (p ∷ ps) r are =
   where
     one : (b : Bool) (m : Peer × Msg) → In m (round_by txn number by p r b).send → IsAsk m
     one true m i = are m i
-    one false m i = elim (In-append m r.send (to_server (server_of r.server.map p.file) (ask_for txn number by p) ∷ []) i) as (λ _. IsAsk m) [
-      | inl j ↦ are m j
-      | inr j ↦ one_ask txn number by p (server_of r.server.map p.file) m j
-    ]
+    one false m i = elim (In-append m r.send (to_server (server_of r.server.map p.file) (ask_for txn number by p) ∷ []) i) as
+        (λ _. IsAsk m) [
+          | inl j ↦ are m j
+          | inr j ↦ one_ask txn number by p (server_of r.server.map p.file) m j
+        ]
 
 -- an answer is no vote
 pub answer_votes : (by : Session) (a : Answer) (to : ℕ) (v : VotedMsg) → In (OfServer to, msg.Peer (peer.Vote v)) (to_session by a ∷ []) → ⊥
@@ -149,11 +151,13 @@ module _ (skew greatest k : ℕ) (c : Cluster) (s : Server) (at : slice_get c.se
         (parcels_then k c (without_arrived k e c.in_flight) ms w.parcels w.none) w.given w.rows in
         event_fair skew greatest k c s at h f e x (record {
           later = later;
-          leading = λ l i. elim (in_with_leading new t.leading l i) as (λ _. VotesFair (after_step k e x c) l.leader.session l.leader.votes) [
-            | inl same ↦ subst (λ (z : Leading). VotesFair (after_step k e x c) z.leader.session z.leader.votes) (sym same)
-                (λ number end now v. event_still skew greatest k c s at h f e x later new.leader.session number end now (w.votes number end now v))
-            | inr j ↦ event_leading skew greatest k c s at h f e x later l (subst (In l) w.leading j.0)
-          ];
+          leading = λ l i. elim (in_with_leading new t.leading l i) as
+              (λ _. VotesFair (after_step k e x c) l.leader.session l.leader.votes) [
+                | inl same ↦ subst (λ (z : Leading). VotesFair (after_step k e x c) z.leader.session z.leader.votes) (sym same)
+                    (λ number end now v. event_still skew greatest k c s at h f e x later new.leader.session number end now
+                    (w.votes number end now v))
+                | inr j ↦ event_leading skew greatest k c s at h f e x later l (subst (In l) w.leading j.0)
+              ];
           before = λ l o i j its. elim (in_with_leading new t.leading l i) as (λ _. l.leader.session ≡ o.leader.session) [
             | inl same ↦ ap (λ (z : Leading). z.leader.session) same
                 ∙ w.session o j (ap (λ (z : Leading). z.leader.txn) (sym same) ∙ its)
@@ -189,7 +193,8 @@ module _ (skew greatest k : ℕ) (c : Cluster) (s : Server) (at : slice_get c.se
         (λ _. WasEnded c by number end now) [
           | inl z ↦ absurd z
           | inr p ↦
-              vote_fair skew greatest k c s at h by asked.led (up ∙ ap (λ (x : ToLead). let xs : List ClientMsg = Lead x ∷ [] in xs) asked.told)
+              vote_fair skew greatest k c s at h by asked.led
+              (up ∙ ap (λ (x : ToLead). let xs : List ClientMsg = Lead x ∷ [] in xs) asked.told)
               asked.is within p.0 (subst (λ (x : ToLead). In p.0 (parts_in x)) asked.told p.1.0) number end now p.1.1
         ]
 
@@ -216,8 +221,7 @@ module _ (skew greatest k : ℕ) (c : Cluster) (s : Server) (at : slice_get c.se
         let x : Stepped = refuses by w s in
         let later : RowsLater c (after_step k asking x c) =
         stepped_later k c (after_step k asking x c) s s at h.places refl (parcels_then k c c.in_flight x.out.send refl refl) refl
-        (relocked_not s.rows) in
-        (
+        (relocked_not s.rows) in (
           event_fair skew greatest k c s at h f asking x (record {
             later = later;
             leading = event_leading skew greatest k c s at h f asking x later;
@@ -294,18 +298,22 @@ module _ (skew greatest k : ℕ) (c : Cluster) (s : Server) (at : slice_get c.se
     one_more : (v : Vote) → ((number : LeaseNo) (end now : ℕ) → v ≡ vote.Ended number end now → WasEnded c l.leader.session number end now)
         → VotesFair c l.leader.session (votes_after l.leader.votes m.number v)
     one_more v right number end now i =
-        elim (votes_in l.leader.votes m.number v (Some (vote.Ended number end now)) i) as (λ _. WasEnded c l.leader.session number end now) [
+        elim (votes_in l.leader.votes m.number v (Some (vote.Ended number end now)) i) as
+        (λ _. WasEnded c l.leader.session number end now) [
           | inl e ↦ let same : v ≡ vote.Ended number end now = cc in right number end now same
           | inr j ↦ old_votes number end now j
         ]
 
     counted : is_moved m.vote ≡ false → IsRightStep k voting c (counts m.number m.vote l s)
     counted stays =
-        goes_on_fair skew greatest k c s at voting (λ items replied. refl) splits (note.Waits l.leader.txn) (with_vote m.number m.vote l) [] s
+        goes_on_fair skew greatest k c s at voting (λ items replied. refl) splits (note.Waits l.leader.txn)
+        (with_vote m.number m.vote l) [] s
         (λ txn number end now e. absurd (cc e)) (counted_waits skew greatest k c s at h splits from m comes stays)
-        (only_waits (note.Waits l.leader.txn) (votes_after l.leader.votes m.number m.vote) l.at [] s (relocked_not s.rows) refl refl refl refl
+        (only_waits (note.Waits l.leader.txn) (votes_after l.leader.votes m.number m.vote) l.at [] s (relocked_not s.rows)
+        refl refl refl refl
         (λ x z. absurd z)
-        (one_more m.vote (λ number end now v. f.coming g (found (is_between from k) c.in_flight g comes).0 m refl number end now v l its_led)))
+        (one_more m.vote (λ number end now v.
+        f.coming g (found (is_between from k) c.in_flight g comes).0 m refl number end now v l its_led)))
 
     module _ (p : Part) (part : slice_get l.leader.parts m.number ≡ Some p) (moved : is_moved m.vote ≡ true) where
       sought : (to : ℕ) → IsRightStep k voting c (seeks m.number to p l s)

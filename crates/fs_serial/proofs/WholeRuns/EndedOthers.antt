@@ -1,5 +1,5 @@
 -- Whatever is no word of a transaction tells of no lease that it had ended, and no row with an old number is new then.
-use Rattle.std.proofs.Common.{◌≡◌, ℕ, ◌≤◌, Bool, true, false, List, [], ◌∷◌, ◌++◌, cond, length, refl, sym, ap, ap₂, ◌∙◌, subst, inl, inr, arith}
+use Rattle.std.proofs.Common.{◌≡◌, ℕ, ◌≤◌, Bool, true, false, List, [], ◌∷◌, cond, length, refl, sym, ap, ap₂, ◌∙◌, subst, inl, inr, arith}
 use Rattle.std.specs.Prelude.{Option, Some, None, slice_get, slice_set}
 use Rattle.std.specs.List.{list_all}
 use Rattle.fs_ident.specs.In.{In}
@@ -7,9 +7,7 @@ use Rattle.fs_ident.specs.declared.actor.Peer.{Peer}
 use Rattle.fs_ident.specs.declared.actor.Peer.TheVariants.{Client as OfSession, Server as OfServer}
 use Rattle.fs_ident.specs.declared.actor.Session.{Session}
 use Rattle.fs_ident.proofs.Passing.{found}
-use Rattle.fs_ident.proofs.Standing.{In-behind, In-front, In-got, In-mapped}
-use Rattle.fs_field.specs.declared.field.Field.{Field}
-use Rattle.fs_field.specs.declared.row.Row.{Row}
+use Rattle.fs_ident.proofs.Standing.{In-front, In-mapped}
 use Rattle.fs_msg.specs.declared.answer.Answer.{Answer}
 use Rattle.fs_msg.specs.declared.answer.Answer.TheVariants as answer
 use Rattle.fs_msg.specs.declared.client_msg.ClientMsg.{ClientMsg}
@@ -39,19 +37,17 @@ use Rattle.fs_server.specs.declared.state.Server.{Server}
 use Rattle.fs_server.proofs.OneByOne.{reaps_leave}
 use Rattle.fs_txn.specs.Stages.{Told}
 use Rattle.fs_txn.specs.Stages.Word.{Voted}
-use Rattle.fs_txn.specs.declared.leading.Leading.{Leading}
-use Rattle.fs_serial.specs.Cluster.{Cluster, InFlight, IsThere, after_step, in_flight_from, is_between, is_with, replies_after, without_arrived, without_question}
-use Rattle.fs_serial.specs.EndedLeases.{EndsFair, WasEnded}
+use Rattle.fs_serial.specs.Cluster.{Cluster, InFlight, IsThere, after_step, in_flight_from, is_with}
+use Rattle.fs_serial.specs.EndedLeases.{EndsFair}
 use Rattle.fs_serial.specs.Leading.{LeavesLed}
 use Rattle.fs_serial.specs.Owed.{ends_in, taken_leads}
-use Rattle.fs_serial.specs.Refusals.{rows_in}
 use Rattle.fs_serial.specs.Seen.{ClusterHolds, counts_of, given_at, with_all}
-use Rattle.fs_serial.specs.Sight.{Counts, count_with}
+use Rattle.fs_serial.specs.Sight.{Counts}
 use Rattle.fs_serial.specs.Words.{IsNoneOfLed, decided_in, key_of, telling_of, told_in, told_with}
 use Rattle.fs_serial.specs.World.{IsOther}
 use Rattle.fs_serial.proofs.ClientMessages.Sending.{IsRecallTo, recall_all, recall_each, recall_with}
 use Rattle.fs_serial.proofs.Lists.Counting.{given_by}
-use Rattle.fs_serial.proofs.Lists.SetAt.{In_without, get_here}
+use Rattle.fs_serial.proofs.Lists.SetAt.{get_here}
 use Rattle.fs_serial.proofs.Lists.Traffic.{messages}
 use Rattle.fs_serial.proofs.Moves.Arriving.{arriving_same}
 use Rattle.fs_serial.proofs.Moves.Leaving.{move_same}
@@ -62,7 +58,6 @@ use Rattle.fs_serial.proofs.Replies.Knowing.{In-filter_map}
 use Rattle.fs_serial.proofs.Returns.LaterSteps.{released_later, renewed_later}
 use Rattle.fs_serial.proofs.Returns.ServerTurn.{later_reaped}
 use Rattle.fs_serial.proofs.Transactions.OtherEvents.{other_leaves, parcel_fits}
-use Rattle.fs_serial.proofs.Transactions.OthersKeep.{taken_client}
 use Rattle.fs_serial.proofs.Transactions.StandsAfter.{view}
 use Rattle.fs_serial.proofs.WholeRuns.Addressing.{recall_free}
 use Rattle.fs_serial.proofs.WholeRuns.EndedDecisions.{IsRightStep, NamesNone, noted_none}
@@ -81,8 +76,8 @@ recalls_free ms are to e i =
     recall_free (OfSession to, msg.Answer (answer.Led e)) (are (OfSession to, msg.Answer (answer.Led e)) i) to (answer.Led e) refl refl
 
 -- one answer of another kind, and recalls behind it
-one_free : (by : Session) (a : Answer) (rest : List (Peer × Msg)) → ((m : Peer × Msg) → In m rest → IsRecallTo m) → (to : Session) (e : LedEnd)
-    → (answer.Led e ≡ a → ⊥) → TellsEnd to e (to_session by a ∷ rest) → ⊥
+one_free : (by : Session) (a : Answer) (rest : List (Peer × Msg)) → ((m : Peer × Msg) → In m rest → IsRecallTo m)
+    → (to : Session) (e : LedEnd) → (answer.Led e ≡ a → ⊥) → TellsEnd to e (to_session by a ∷ rest) → ⊥
 one_free by a rest are to e other (inl q) =
     let same : msg.Answer (answer.Led e) ≡ msg.Answer a = ap (λ (p : Peer × Msg). p.1) q in
     let is : answer.Led e ≡ a = cc in
@@ -92,7 +87,8 @@ one_free by a rest are to e other (inr i) = recalls_free rest are to e i
 ship_free : (by : Session) (entries : List Entry) (s : Server) (b : Bool) (to : Session) (e : LedEnd)
     → TellsEnd to e (cond b (shipped by (ship_from by entries s [])) (strange s)).out.send → ⊥
 ship_free by entries s true to e i =
-    let x = ship_from by entries s [] in one_free by (answer.Shipped (length x.admitted) x.end) [] (λ m j. absurd j) to e (λ q. absurd (cc q)) i
+    let x = ship_from by entries s [] in
+    one_free by (answer.Shipped (length x.admitted) x.end) [] (λ m j. absurd j) to e (λ q. absurd (cc q)) i
 ship_free by entries s false to e i = i
 
 message_free : (by : Session) (m : ClientMsg) (s : Server) → IsNoneOfLed (event.FromClient by m) → (to : Session) (e : LedEnd)
@@ -204,7 +200,8 @@ vote_told k ms none to m i =
 -- ## Rows
 
 message_later : (o : Counts) (by : Session) (m : ClientMsg) (t : Server) → IsOther (event.FromClient by m)
-    → IsLater (given_by o t) (given_by o (event_step (event.FromClient by m) t).server) t.rows (event_step (event.FromClient by m) t).server.rows
+    → IsLater (given_by o t) (given_by o (event_step (event.FromClient by m) t).server) t.rows
+    (event_step (event.FromClient by m) t).server.rows
 message_later o by (Ask items dir) t other = (asked_same by items dir t).later o
 message_later o by (Renew pairs) t other = renewed_later (given_by o t) (end_of t) (numbers_in (pairs_here t pairs)) t.rows
 message_later o by (Release pairs) t other = released_later (given_by o t) (numbers_in (pairs_here t pairs)) t.rows
@@ -231,7 +228,8 @@ module _ (skew greatest k : ℕ) (c : Cluster) (s : Server) (at : slice_get c.se
 
   -- what comes of the event at the server that has all
   seen_later : (e : ServerEvent) (small big : Stepped) → IsSameStep k e s small big c
-      → IsLater (given_by (counts_of c.servers) (with_all s c)) (given_by (counts_of c.servers) big.server) (with_all s c).rows big.server.rows
+      → IsLater (given_by (counts_of c.servers) (with_all s c)) (given_by (counts_of c.servers) big.server)
+      (with_all s c).rows big.server.rows
       → RowsLater c (after_step k e small c)
   seen_later e small big same later = record {
     given = λ j.
@@ -310,8 +308,7 @@ module _ (skew greatest k : ℕ) (c : Cluster) (s : Server) (at : slice_get c.se
   other_fair f e there none =
       let x : Stepped = event_step e s in
       let leaves : LeavesLed k e s x c = other_leaves skew greatest k c s at h e there none in
-      let later : RowsLater c (after_step k e x c) = other_later e there none in
-      (
+      let later : RowsLater c (after_step k e x c) = other_later e there none in (
         event_fair skew greatest k c s at h f e x (record {
           later = later;
           leading = λ l i. event_leading skew greatest k c s at h f e x later l (subst (In l) leaves.leading i);

@@ -8,7 +8,7 @@ use Rattle.fs_ident.specs.declared.actor.Session.{Session}
 use Rattle.fs_ident.proofs.Standing.{In-filter, In-map}
 use Rattle.fs_field.specs.declared.row.Row.{Row}
 use Rattle.fs_server.specs.declared.state.Server.{Server}
-use Rattle.fs_serial.specs.Cluster.{Cluster, InFlight, parcels_of}
+use Rattle.fs_serial.specs.Cluster.{Cluster, parcels_of}
 use Rattle.fs_serial.specs.EndedLeases.{WasEnded}
 use Rattle.fs_serial.specs.Joined.{rows_of_all}
 use Rattle.fs_serial.specs.Locks.{IsRelock, at_home}

@@ -1,6 +1,6 @@
 -- What a server tells of leases that had ended is right after its step, where what it adds is.
 use Rattle.std.proofs.Common.{◌≡◌, ◌⊎◌, ◌==◌, ℕ, Bool, true, false, List, [], ◌∷◌, ◌++◌, cond, refl, sym, ap, ap₂, ◌∙◌, subst, inl, inr}
-use Rattle.std.specs.Prelude.{Option, Some, slice_get, slice_set}
+use Rattle.std.specs.Prelude.{Some, slice_get, slice_set}
 use Rattle.fs_ident.specs.In.{In}
 use Rattle.fs_ident.specs.declared.actor.LeaseNo.{LeaseNo}
 use Rattle.fs_ident.specs.declared.actor.Peer.{Peer}
@@ -16,11 +16,9 @@ use Rattle.fs_record.specs.declared.led_end.LedEnd.{LedEnd}
 use Rattle.fs_record.specs.declared.led_end.LedEnd.TheVariants as led
 use Rattle.fs_msg.specs.declared.answer.Answer.{Answer}
 use Rattle.fs_msg.specs.declared.answer.Answer.TheVariants as answer
-use Rattle.fs_msg.specs.declared.client_msg.ClientMsg.{ClientMsg}
 use Rattle.fs_msg.specs.declared.item.Item.{Item}
 use Rattle.fs_msg.specs.declared.msg.Msg.{Msg}
 use Rattle.fs_msg.specs.declared.msg.Msg.TheVariants as msg
-use Rattle.fs_msg.specs.declared.peer_msg.PeerMsg.{PeerMsg}
 use Rattle.fs_msg.specs.declared.peer_msg.PeerMsg.TheVariants as peer
 use Rattle.fs_msg.specs.declared.voted.Voted.{Voted as VotedMsg}
 use Rattle.fs_client.specs.declared.state.Client.{Client}
@@ -40,7 +38,7 @@ use Rattle.fs_serial.specs.Cluster.{with_answer, with_sent, without_arrived, wit
 use Rattle.fs_serial.specs.EndedLeases.{EndsFair, WasEnded}
 use Rattle.fs_serial.specs.Leading.{LedHolds}
 use Rattle.fs_serial.specs.Seen.{ClusterHolds}
-use Rattle.fs_serial.specs.Words.{desks_of, ended_in, key_of, leading_at, led_in, telling_of, told_in, told_with}
+use Rattle.fs_serial.specs.Words.{desks_of, ended_in, key_of, leading_at, led_in, told_in, told_with}
 use Rattle.fs_serial.proofs.Lists.SetAt.{In_without}
 use Rattle.fs_serial.proofs.Replies.Knowing.{In-filter_map}
 use Rattle.fs_serial.proofs.Transactions.AwaitedWords.{IsAskedBy, asked_by}
@@ -102,7 +100,8 @@ pub record HasLeader (servers : List Server) (m : VotedMsg) : Type 0 where
   pub leading : Leading
   pub is : led_in servers m.txn ≡ Some leading
 
-pub vote_led : (c : Cluster) → LedHolds c → (f : InFlight) → In f c.in_flight → (m : VotedMsg) → f.message ≡ peer.Vote m → HasLeader c.servers m
+pub vote_led : (c : Cluster) → LedHolds c → (f : InFlight) → In f c.in_flight → (m : VotedMsg) → f.message ≡ peer.Vote m
+    → HasLeader c.servers m
 vote_led c held f i m e =
     let key : Key = key_of m.txn m.number in
     let told : Told = told_with f.from f.to (key, Voted m.vote) in
@@ -152,8 +151,8 @@ module _ (skew greatest k : ℕ) (c : Cluster) (s : Server) (at : slice_get c.se
   same_led clients y = ap (λ (z : Client). z.led) (sent_client k ms lines y ∙ clients y)
 
   -- what was right is right
-  pub still : RowsLater c stepped → ((y : Session) → (lines y).client ≡ (c.lines y).client) → (by : Session) (number : LeaseNo) (end now : ℕ)
-      → WasEnded c by number end now → WasEnded stepped by number end now
+  pub still : RowsLater c stepped → ((y : Session) → (lines y).client ≡ (c.lines y).client) → (by : Session)
+      (number : LeaseNo) (end now : ℕ) → WasEnded c by number end now → WasEnded stepped by number end now
   still later clients by number end now = ended_stays c stepped by number end now later (same_led clients by)
 
   -- what stays of its tables
@@ -254,7 +253,8 @@ module _ (skew greatest k : ℕ) (c : Cluster) (s : Server) (at : slice_get c.se
   event_still later = still skew greatest k c s at h f left lines x.server x.out.send journal replied later (taken_client k e c.lines)
 
   pub event_leading : RowsLater c then → (l : Leading) → In l s.leading → VotesFair then l.leader.session l.leader.votes
-  event_leading later = old_leading skew greatest k c s at h f left lines x.server x.out.send journal replied later (taken_client k e c.lines)
+  event_leading later = old_leading skew greatest k c s at h f left lines x.server x.out.send journal replied later
+      (taken_client k e c.lines)
 
   pub event_ending : RowsLater c then → (y : Ending) → In y s.ending → EndFair then y.session y.end
   event_ending later = old_ending skew greatest k c s at h f left lines x.server x.out.send journal replied later (taken_client k e c.lines)

@@ -1,9 +1,10 @@
 -- A server votes that a lease had ended: it had.
 use mathlib.Core.Path.{fun_ext}
-use Rattle.std.proofs.Common.{◌≡◌, ◌==◌, ℕ, ◌+◌, ◌<◌, ◌≤◌, ◌⊎◌, not, true, false, List, [], ◌∷◌, ◌++◌, cond, map, refl, sym, ap, ap₂, ◌∙◌, subst, inl, inr, arith}
+use Rattle.std.proofs.Common.{◌≡◌, ℕ, ◌+◌, ◌<◌, ◌≤◌, ◌⊎◌, not, true, false, List, [], ◌∷◌, cond, map, refl, sym, ap, ap₂, ◌∙◌, subst, inl}
+use Rattle.std.proofs.Common.{inr, arith}
 use Rattle.std.proofs.lemmas.Bool.{ltb-true, ltb-false}
 use Rattle.std.specs.Prelude.{◌≢◌, ◌||◌, Bool, Option, Some, None, nat_lt, slice_get}
-use Rattle.std.specs.List.{find, list_any}
+use Rattle.std.specs.List.{find}
 use Rattle.fs_ident.specs.Ident.{same}
 use Rattle.fs_ident.specs.In.{In}
 use Rattle.fs_ident.specs.declared.actor.LeaseNo.{LeaseNo}
@@ -11,7 +12,7 @@ use Rattle.fs_ident.specs.declared.actor.Session.{Session}
 use Rattle.fs_ident.specs.declared.actor.TxnNo.{TxnNo}
 use Rattle.fs_ident.proofs.Booleans.{denied}
 use Rattle.fs_ident.proofs.Passing.{found}
-use Rattle.fs_ident.proofs.Same.{itself, same_is}
+use Rattle.fs_ident.proofs.Same.{same_is}
 use Rattle.fs_ident.proofs.Standing.{In-append, In-filter, In-got, In-map}
 use Rattle.fs_field.specs.Field.{file_of}
 use Rattle.fs_field.specs.Table.{is_lease}
@@ -42,7 +43,7 @@ use Rattle.fs_serial.specs.Locks.{IsRelock}
 use Rattle.fs_serial.specs.Owed.{ends_in}
 use Rattle.fs_serial.specs.Parts.{SessionFits}
 use Rattle.fs_serial.specs.Refusals.{rows_in}
-use Rattle.fs_serial.specs.Seen.{ClusterHolds, counts_of, given_at, world_of}
+use Rattle.fs_serial.specs.Seen.{ClusterHolds, given_at, world_of}
 use Rattle.fs_serial.specs.Sight.{IsGiven}
 use Rattle.fs_serial.specs.World.{settled_at, sight_in}
 use Rattle.fs_serial.proofs.Grants.OneLease.{lease_is}
@@ -86,8 +87,8 @@ voted_gone : (s : Server) (by : Session) (p : Part) (number : LeaseNo) (end now 
     → IsFirstGone s by p number end now
 voted_gone s by p number end now = by_file (is_mine s p.file) refl
   where
-    by_use : (o : Option Use) → first_gone s.rows by p.uses ≡ o → is_mine s p.file ≡ true → vote_by o None s.last ≡ vote.Ended number end now
-        → IsFirstGone s by p number end now
+    by_use : (o : Option Use) → first_gone s.rows by p.uses ≡ o → is_mine s p.file ≡ true
+        → vote_by o None s.last ≡ vote.Ended number end now → IsFirstGone s by p number end now
     by_use (Some u) e mine h = record { mine = mine; used = u; first = e; no = cc; until = cc; reading = cc }
     by_use None e mine h = absurd (cc h)
 
@@ -110,7 +111,8 @@ module _ (skew greatest k : ℕ) (c : Cluster) (s : Server) (at : slice_get c.se
   fits : SessionFits s.skew greatest (sight_in (world_of s c)) by (settled_at by (ends_in c by))
   fits = (h.parts s here).0.all.fitting by
 
-  given_there : (number : LeaseNo) → IsGiven (sight_in (world_of s c)).given number → number.count ≤ given_at (slice_get c.servers number.server)
+  given_there : (number : LeaseNo) → IsGiven (sight_in (world_of s c)).given number
+      → number.count ≤ given_at (slice_get c.servers number.server)
   given_there number few = subst (λ n. number.count ≤ n) (count_own c.servers k s at (h.places.numbered k s at) number.server) few
 
   module _ (p : Part) (i : In p (parts_in (lead_of d))) (number : LeaseNo) (end now : ℕ) (gone : IsFirstGone s by p number end now) where
@@ -159,7 +161,8 @@ module _ (skew greatest k : ℕ) (c : Cluster) (s : Server) (at : slice_get c.se
       had = record { used = of_part.0; gone = none; ended = subst (λ n. u.until ≤ n) gone.reading over };
       given =
           let l = its.held d.entry (inl refl) u of_part.0 in
-          given_there number (subst (λ (n : LeaseNo). IsGiven (sight_in (world_of s c)).given n) (l.number ∙ gone.no) (fits.given l.lease l.held));
+          given_there number (subst (λ (n : LeaseNo). IsGiven (sight_in (world_of s c)).given n) (l.number ∙ gone.no)
+          (fits.given l.lease l.held));
     }
 
   -- its vote on a part of the operation is right
