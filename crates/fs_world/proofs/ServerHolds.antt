@@ -146,7 +146,7 @@ module _ (laws : EventLaws) (count skew greatest : ℕ) (tale : Tale) (p : Parts
     asks_one x = laws.exchanges skew (max greatest now) (step s now e).server then x
         (In_new p.servers k s (step s now e).server at) then_holds
 
-    step_is_then : after_step k e (step s now e) c ≡ then
+    pub step_is_then : after_step k e (step s now e) c ≡ then
     step_is_then = sym (ap (λ (o : Option Server). after_server_at o now k e c) at) ∙ core_seen
 
     -- what it brings to each session
