@@ -41,6 +41,7 @@ use Rattle.fs_serial.specs.Cluster.{Cluster, IsThere, Lines, after_step, is_with
 use Rattle.fs_serial.specs.Owed.{ends_with, taken_leads}
 use Rattle.fs_serial.proofs.Lists.SetAt.{In_without, get_here, set_same}
 use Rattle.fs_serial.specs.Refusals.{rows_in}
+use Rattle.fs_serial.specs.declared.in_flight.InFlight.{InFlight}
 use Rattle.fs_serial.specs.Joined.{rows_of_all}
 use Rattle.fs_world.specs.Calls.{without_message}
 use Rattle.fs_world.specs.Carried.{Carries, GivesFirst, AreFirstOf, between, downs_of, joined_at, post_of, state_post}
