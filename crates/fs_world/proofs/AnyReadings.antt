@@ -25,13 +25,13 @@ use Rattle.fs_world.proofs.ServedHolds.{cluster_of}
 use Rattle.fs_world.proofs.ServedSteps.{step_holds}
 use Rattle.fs_world.proofs.SessionSteps.{HoldsOf, parts_of}
 
--- each event of a client comes in time
+-- each event comes in time
 abbrev anyhow_laws : EventLaws
 anyhow_laws = record {
   Holds = HoldsAnyhow;
   Within = λ skew greatest now. Unit {0};
   again = λ skew greatest now within. tt;
-  event = server_anyhow;
+  event = λ skew greatest now k e s c at clock within there h. server_anyhow skew greatest now k e s c at clock there h;
   rises = anyhow_later;
   client = λ skew greatest now c by h e can within. client_anyhow skew greatest now c by h e can;
   first = first_anyhow;

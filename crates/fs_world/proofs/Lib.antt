@@ -64,6 +64,8 @@ pub mod AnyReadings
 pub mod Runs
 pub mod Whole
 pub mod LedEach
+mod EndedStill
+mod EndedOnward
 pub mod Right
 pub mod RightSteps
 pub mod RightRuns

@@ -17,7 +17,7 @@ use Rattle.fs_schedule.specs.declared.outcome.Outcome.{Outcome}
 use Rattle.fs_world.specs.Carried.{AllCarry}
 use Rattle.fs_world.specs.Direct.{do_at, join_at, step_of}
 use Rattle.fs_world.specs.Order.{Tale, after, first_tale}
-use Rattle.fs_world.specs.Refusals.{AllFair, HasNone, IsFair, IsFairAnswer, NoneHas, NoneStrange, is_core_strange, is_link_strange, is_strange, rows_of}
+use Rattle.fs_world.specs.Refusals.{AllFair, HasNone, IsFairAnswer, IsFairLed, NoneHas, NoneStrange, is_core_strange, is_link_strange, is_strange, rows_of}
 use Rattle.fs_schedule.specs.Skew.{IsTimely}
 use Rattle.fs_schedule.specs.Spelling.{FitsHead}
 use Rattle.fs_world.specs.World.{AllMayHappen, Run, first_run, first_world, more, run_of, run_on, step}
@@ -27,27 +27,31 @@ use Rattle.fs_world.specs.declared.form.Form.TheVariants.{Direct, Served}
 use Rattle.fs_world.specs.Parts.{greatest_of}
 use Rattle.fs_world.proofs.GoesOn.{Goes, goes_first, goes_on}
 use Rattle.fs_world.proofs.SerialLaws.{SerialLaws}
-use Rattle.fs_world.proofs.Right.{Answers}
+use Rattle.fs_world.proofs.Right.{Fairness, NoteFair}
 use Rattle.fs_world.proofs.RightSteps.{AllRight, step_right}
 
 -- ## One event
 
-direct_join : (ok : Answers) (s : Session) (o : Option ℕ) (w : TheDirect) → AllRight ok (join_at o w s).outcome.notes
+direct_join : (ok : Fairness) (s : Session) (o : Option ℕ) (w : TheDirect) → AllRight ok (join_at o w s).outcome.notes
 direct_join ok s None w = (record { plain = refl; fair = tt }, tt)
 direct_join ok s (Some n) w = (record { plain = refl; fair = tt }, tt)
 
-direct_do : (ok : Answers) (s : Session) (op : Op) (o : Option ℕ) (w : TheDirect) → AllRight ok (do_at o w s op).outcome.notes
+direct_do : (ok : Fairness) (s : Session) (op : Op) (o : Option ℕ) (w : TheDirect) → AllRight ok (do_at o w s op).outcome.notes
 direct_do ok s op None w = (record { plain = refl; fair = tt }, tt)
 direct_do ok s op (Some n) w = (record { plain = refl; fair = tt }, tt)
 
-direct_right : (ok : Answers) (w : TheDirect) (what : What) → AllRight ok (step_of w what).outcome.notes
+direct_right : (ok : Fairness) (w : TheDirect) (what : What) → AllRight ok (step_of w what).outcome.notes
 direct_right ok w (Join s) = direct_join ok s (get w.asked s.0) w
 direct_right ok w (Do s o) = direct_do ok s o (get w.asked s.0) w
 direct_right ok w what = (record { plain = refl; fair = tt }, tt)
 
--- an answer to a log is fair in the event
-abbrev fair_in : Form → Event → Answers
-fair_in w e = IsFairAnswer w e (rows_of (step w e).world)
+-- what is fair in the event
+abbrev fair_in : Form → Event → Fairness
+fair_in w e = record {
+  answers = IsFairAnswer w e (rows_of (step w e).world);
+  ended = IsFairLed w (rows_of (step w e).world);
+  who = (step w e).outcome.who;
+}
 
 right_at : (laws : SerialLaws) (top : ℕ) (h : Head) (e : Event) (es : List Event) (tale : Tale) (w : Form) → Goes laws top h (e ∷ es) tale w → AllRight (fair_in w e) (step w e).outcome.notes
 right_at laws top head.Direct e es tale (Direct w) g = direct_right (fair_in (Direct w) e) w e.what
@@ -57,11 +61,11 @@ right_at laws top (head.Servers servers skew term) e es tale (Direct w) g = absu
 
 -- ## All events
 
-all_fair : (ok : Answers) (notes : List Note) → AllRight ok notes → AllByRecursion (IsFair ok) notes
+all_fair : (ok : Fairness) (notes : List Note) → AllRight ok notes → AllByRecursion (NoteFair ok) notes
 all_fair ok [] h = tt
 all_fair ok (n ∷ ns) h = (h.0.fair, all_fair ok ns h.1)
 
-all_plain : (ok : Answers) (notes : List Note) → AllRight ok notes → AllByRecursion (λ (n : Note). is_core_strange n ≡ false) notes
+all_plain : (ok : Fairness) (notes : List Note) → AllRight ok notes → AllByRecursion (λ (n : Note). is_core_strange n ≡ false) notes
 all_plain ok [] h = tt
 all_plain ok (n ∷ ns) h = (h.0.plain, all_plain ok ns h.1)
 

@@ -1,9 +1,11 @@
 -- Every event of a world of the servers form notes what is right.
-use Rattle.std.proofs.Common.{◌≡◌, ℕ, ◌+◌, ◌==◌, ◌≤◌, ◌<◌, max, true, false, List, [], ◌∷◌, ◌++◌, length, cond, refl, sym, ap, ◌∙◌, subst, arith}
+use Rattle.std.proofs.Common.{◌≡◌, ℕ, ◌+◌, ◌==◌, ◌≤◌, ◌<◌, max, true, false, List, [], ◌∷◌, ◌++◌, length, cond, refl, sym, ap, ap₂, ◌∙◌, subst, arith}
 use Rattle.std.proofs.lemmas.Bool.{eqb-true}
-use Rattle.std.specs.Prelude.{Option, Some, None, nat_lt, slice_get}
+use Rattle.std.specs.Prelude.{Option, Some, None, nat_lt, slice_get, slice_set}
 use Rattle.std.specs.FinMap.{get, insert}
 use Rattle.std.specs.List.{AllByRecursion, find}
+use Rattle.fs_ident.specs.In.{In}
+use Rattle.fs_ident.specs.declared.actor.LeaseNo.{LeaseNo}
 use Rattle.fs_ident.specs.declared.actor.Peer.{Peer}
 use Rattle.fs_ident.specs.declared.actor.Peer.TheVariants.{Server, Client}
 use Rattle.fs_ident.specs.declared.actor.Session.{Session}
@@ -19,7 +21,9 @@ use Rattle.fs_window.specs.Reading.{packet_at}
 use Rattle.fs_window.specs.declared.heard.Heard.{Heard}
 use Rattle.fs_window.specs.declared.packet.Packet.{Packet}
 use Rattle.fs_window.specs.declared.sent.Sent.{Sent}
+use Rattle.fs_record.specs.declared.led_end.LedEnd.TheVariants as led_end
 use Rattle.fs_msg.specs.declared.answer.Answer.{Answer}
+use Rattle.fs_msg.specs.declared.answer.Answer.TheVariants as answer
 use Rattle.fs_msg.specs.declared.client_msg.ClientMsg.{ClientMsg}
 use Rattle.fs_msg.specs.declared.client_msg.ClientMsg.TheVariants.{Ask, Release, Renew, Ship, Lead}
 use Rattle.fs_msg.specs.declared.note.Note.{Note}
@@ -35,8 +39,9 @@ use Rattle.fs_schedule.specs.declared.event.What.{What}
 use Rattle.fs_schedule.specs.declared.event.What.TheVariants.{Join, Do, Tell, Turn, Recall, Move}
 use Rattle.fs_serial.specs.Cluster.{Cluster, IsThere, Lines, after_step, is_with, parcels_of, without_first}
 use Rattle.fs_serial.specs.Owed.{ends_with, taken_leads}
-use Rattle.fs_serial.proofs.Lists.SetAt.{get_here, set_same}
+use Rattle.fs_serial.proofs.Lists.SetAt.{In_without, get_here, set_same}
 use Rattle.fs_serial.specs.Refusals.{rows_in}
+use Rattle.fs_serial.specs.declared.in_flight.InFlight.{InFlight}
 use Rattle.fs_serial.specs.Joined.{rows_of_all}
 use Rattle.fs_world.specs.Calls.{without_message}
 use Rattle.fs_world.specs.Carried.{Carries, GivesFirst, AreFirstOf, between, downs_of, joined_at, post_of, state_post}
@@ -44,14 +49,15 @@ use Rattle.fs_world.specs.Order.{Tale, ended_in}
 use Rattle.fs_world.specs.Packets.{first_undelivered}
 use Rattle.fs_world.specs.Parts.{lines_in, lines_of}
 use Rattle.fs_world.specs.Served.{SessionStepped, ServerStepped, Stepped, arrives, at_server, comes, do_at, join_at, server_step_at, server_receive_packet, server_receive_packet_at, step_of, tell_at, client_receive_packet_at, turn_at, flying_without_each, with_session, with_server, without_joined, without_up}
-use Rattle.fs_world.specs.Refusals.{IsFairAnswer, packet_delivered}
+use Rattle.fs_world.specs.Refusals.{IsFairAnswer, IsFairLed, packet_delivered}
 use Rattle.fs_world.specs.World.{may_happen}
 use Rattle.fs_world.specs.declared.form.Form.TheVariants.{Served as ServedForm}
 use Rattle.fs_world.specs.declared.servers.session_state.SessionState.{SessionState}
 use Rattle.fs_world.specs.declared.servers.world.Served.{Served}
+use Rattle.fs_world.proofs.EndedOnward.{Ended, IsAlike, all_alike, all_onward, ended_then, lead_of, step_led, steps, steps_are}
 use Rattle.fs_world.proofs.HeardEach.{AreNext as AreAnswersNext, answers_in, heard_is as answers_heard, heard_notes as answers_noted, notes_all, session_after}
 use Rattle.fs_world.proofs.LinkedStates.{got_here}
-use Rattle.fs_world.proofs.Right.{Answers, IsRight, TakesEvent, event_right, plain_client, turn_right}
+use Rattle.fs_world.proofs.Right.{Fairness, HearsFair, IsRight, TakesEvent, answer_right, event_right, turn_right}
 use Rattle.fs_world.proofs.SerialLaws.{SerialLaws, timed}
 use Rattle.fs_world.proofs.ServedEach.{few_up, later_next, no_second, one_holds, parts_at}
 use Rattle.fs_world.proofs.ServedHolds.{Holds, Parts, cluster_of}
@@ -62,10 +68,10 @@ use Rattle.fs_world.proofs.ServerNext.{AreNext, events_in, flying_alike}
 use Rattle.fs_world.proofs.SessionSteps.{HoldsOf, heard_next, one_asked, parts_of}
 
 -- what the event notes is right
-abbrev pub AllRight : Answers → List Note → Type 0
+abbrev pub AllRight : Fairness → List Note → Type 0
 AllRight ok notes = AllByRecursion (IsRight ok) notes
 
-quiet : (ok : Answers) (x : Heard) → AllRight ok (quiet_note x ∷ [])
+quiet : (ok : Fairness) (x : Heard) → AllRight ok (quiet_note x ∷ [])
 quiet ok x = elim (x.fresh == 0) as (λ b. AllRight ok (cond b note.None note.Part ∷ [])) [
   | true ↦ (record { plain = refl; fair = tt }, tt)
   | false ↦ (record { plain = refl; fair = tt }, tt)
@@ -75,46 +81,63 @@ quiet ok x = elim (x.fresh == 0) as (λ b. AllRight ok (cond b note.None note.Pa
 question_found : (k : ℕ) (up : List (ℕ × ClientMsg)) (m : ℕ × ClientMsg) → find (is_with k) up ≡ Some m → find (is_with k) up ≡ Some (k, m.1)
 question_found k up m first = first ∙ ap (λ (j : ℕ). let o : Option (ℕ × ClientMsg) = Some (j, m.1) in o) (eqb-true m.0 k (found (is_with k) up m first).1)
 
--- what a client notes of the next answers of a server, one after another
+-- what a client notes of the next answers of a server, one after another, where what it hears is fair to note
 notes_right : (answers : List Answer) (laws : SerialLaws) (count skew greatest : ℕ) (tale : Tale) (w : Served) (h : HoldsOf (timed laws) count skew greatest tale w) (now : ℕ) (within : greatest ≤ now + skew) (some : 1 ≤ count)
-    (s : Session) (state : SessionState) (at : get w.sessions s.0 ≡ Some state) (k : ℕ) (ok : Answers) → AreAnswersNext k answers state.down → AllRight ok (notes_all now k answers state.client)
-notes_right [] laws count skew greatest tale w h now within some s state at k ok next = tt
-notes_right (a ∷ answers) laws count skew greatest tale w h now within some s state at k ok next =
+    (s : Session) (state : SessionState) (at : get w.sessions s.0 ≡ Some state) (k : ℕ) (ok : Fairness) → ((a : Answer) → In (k, a) state.down → HearsFair ok a) → AreAnswersNext k answers state.down
+    → AllRight ok (notes_all now k answers state.client)
+notes_right [] laws count skew greatest tale w h now within some s state at k ok hears next = tt
+notes_right (a ∷ answers) laws count skew greatest tale w h now within some s state at k ok hears next =
     let own : lines_of w.term w.sessions s ≡ lines_in w.term s (Some state) = ap (lines_in w.term s) at in
     let one = session_after now k (a ∷ []) state.post state in
     let between : Tale = record { told = tale.told ++ ended_in s (tale.leads s) (note.Client (answer_plan state.client now k a).out.note ∷ []); leads = tale.leads } in
     let v : Served = record w { sessions = insert w.sessions s.0 one } in (
       subst (λ (n : Lines). IsRight ok (note.Client (answer_plan n.client now k a).out.note)) own
-          (plain_client ok (answer_plan (lines_of w.term w.sessions s).client now k a).out.note
-          (laws.client_plain skew greatest now k a s (cluster_of h.replied (parts_of w)) (ap (λ (n : Lines). find (is_with k) n.down) own ∙ next.0) h.cluster)),
-      notes_right answers laws count skew (max greatest now) between v (heard_next (timed laws) count skew greatest tale w h now within some s state at k a state.post next.0) now (omega (arith, within)) some s one (got_here w.sessions s one) k ok next.1,
+          (answer_right ok (lines_of w.term w.sessions s).client now k a (hears a (found (is_with k) state.down (k, a) next.0).0)
+          (laws.client_plain skew greatest now k a s (cluster_of h.replied (parts_of w)) (ap (λ (n : Lines). find (is_with k) n.down) own ∙ next.0) h.cluster.all)),
+      notes_right answers laws count skew (max greatest now) between v (heard_next (timed laws) count skew greatest tale w h now within some s state at k a state.post next.0) now (omega (arith, within)) some s one (got_here w.sessions s one) k ok
+          (λ b i. hears b (In_without (is_with k) state.down (k, b) i)) next.1,
     )
 
 -- what a server notes of the next messages of another one, one after another
 peers_right : (es : List ServerEvent) (laws : SerialLaws) (count skew greatest : ℕ) (tale : Tale) (p : Parts) (x : ServerStepped) (k : ℕ) (c : Core) (at : slice_get p.servers k ≡ Some c) (h : Holds (timed laws) count skew greatest tale (parts_at p k x))
-    (now : ℕ) (within : greatest ≤ now + skew) (i : ℕ) (ok : Answers) → AreNext k (Server i) es x.sessions x.in_flight → AllRight ok (server_notes now es x.server)
-peers_right [] laws count skew greatest tale p x k c at h now within i ok next = tt
-peers_right (e ∷ es) laws count skew greatest tale p x k c at h now within i ok next =
+    (now : ℕ) (within : greatest ≤ now + skew) (i : ℕ) (ok : Fairness)
+    → ((by : Session) (lease : LeaseNo) (until reading : ℕ) → Ended (parts_at p k (steps k (Server i) now es x)) by lease until reading → ok.ended by lease until reading)
+    → AreNext k (Server i) es x.sessions x.in_flight → AllRight ok (server_notes now es x.server)
+peers_right [] laws count skew greatest tale p x k c at h now within i ok ended next = tt
+peers_right (e ∷ es) laws count skew greatest tale p x k c at h now within i ok ended next =
     let q = next.0 in
     let v = parts_at p k x in
     let here : slice_get v.servers k ≡ Some x.server = get_here p.servers k c x.server at in
+    let y : ServerStepped = taking k now e (without_message k (Server i) x) in
+    let then = one_holds (timed laws) count skew greatest tale p x k c at h now within (Server i) e q in
+    let later = later_next k (Server i) now e es x next in
+    let onward = all_onward es laws count skew (max greatest now) tale p y k c at then now (omega (arith, within)) i later in
     let right : IsRight ok (note.Server (step x.server now (FromPeer i q.flies.message)).out.note) =
     event_right laws skew greatest now k x.server (cluster_of h.replied v) here h.cluster (clock (timed laws) count skew greatest tale v h now k x.server here) within ok (FromPeer i q.flies.message)
-    (flying_there (timed laws) count skew greatest tale v h now k x.server here i q.flies q.first) tt in (
+    (flying_there (timed laws) count skew greatest tale v h now k x.server here i q.flies q.first) tt
+    (λ by lease until reading z. ended by lease until reading (onward.still by lease until reading
+    (ended_then laws count skew greatest tale p x k c at h now within i e q by lease until reading z))) in (
       subst (λ (f : ServerEvent). IsRight ok (note.Server (step x.server now f).out.note)) (sym q.is) right,
-      peers_right es laws count skew (max greatest now) tale p (taking k now e (without_message k (Server i) x)) k c at (one_holds (timed laws) count skew greatest tale p x k c at h now (Server i) e q) now (omega (arith, within)) i ok (later_next k (Server i) now e es x next),
+      peers_right es laws count skew (max greatest now) tale p y k c at then now (omega (arith, within)) i ok ended later,
     )
 
 module _ (laws : SerialLaws) (count skew greatest : ℕ) (tale : Tale) (w : Served) (h : HoldsOf (timed laws) count skew greatest tale w) (now : ℕ) (within : greatest ≤ now + skew) (some : 1 ≤ count) where
   abbrev rows_at : Served → List Row
   rows_at v = rows_of_all v.servers (parcels_of v.in_flight)
 
-  -- an answer to a log is fair in the event, which leads to this world
-  abbrev fair_at : What → Served → Answers
-  fair_at what v = IsFairAnswer (ServedForm w) (record { reading = now; what = what }) (rows_at v)
+  -- what is fair in the event, which leads to this world
+  abbrev fair_with : What → Option Peer → List Row → Fairness
+  fair_with what who rows = record {
+    answers = IsFairAnswer (ServedForm w) (record { reading = now; what = what }) rows;
+    ended = IsFairLed (ServedForm w) rows;
+    who = who;
+  }
+
+  abbrev fair_at : What → Peer → Served → Fairness
+  fair_at what who v = fair_with what (Some who) (rows_at v)
 
   abbrev Right : What → Stepped → Type 0
-  Right what x = AllRight (fair_at what x.world) x.outcome.notes
+  Right what x = AllRight (fair_with what x.outcome.who (rows_at x.world)) x.outcome.notes
 
   abbrev seen : Cluster
   seen = cluster_of h.replied (parts_of w)
@@ -132,11 +155,19 @@ module _ (laws : SerialLaws) (count skew greatest : ℕ) (tale : Tale) (w : Serv
 
     turns_right : (s : Session) (o : Option SessionState) → Right what (turn_at o now s w)
     turns_right s None = (record { plain = refl; fair = tt }, tt)
-    turns_right s (Some state) = (turn_right (fair_at what w) state.client now, tt)
+    turns_right s (Some state) = (turn_right (fair_at what (Client s) w) state.client now, tt)
 
-    heard_right : (s : Session) (k : ℕ) (state : SessionState) (x : Heard) (answers : List Answer) → get w.sessions s.0 ≡ Some state → AreAnswersNext k answers state.down → AllRight (fair_at what w) (answers_noted x now k answers state.client)
-    heard_right s k state x [] at next = quiet (fair_at what w) x
-    heard_right s k state x (a ∷ answers) at next = notes_right (a ∷ answers) laws count skew greatest tale w h now within some s state at k (fair_at what w) next
+    -- a session hears that what it had led is refused where that lease had ended
+    hears_fair : (s : Session) (k : ℕ) (state : SessionState) → get w.sessions s.0 ≡ Some state → (a : Answer) → In (k, a) state.down → HearsFair (fair_at what (Client s) w) a
+    hears_fair s k state at a i lease until reading is =
+        let own : lines_of w.term w.sessions s ≡ lines_in w.term s (Some state) = ap (lines_in w.term s) at in
+        (s, refl, lead_of seen w s lease until reading refl (h.cluster.fair.told s k lease until reading
+        (subst (λ (n : Lines). In (k, answer.Led (led_end.Ended lease until reading)) n.down) (sym own)
+        (subst (λ b. In (k, b) state.down) is i))))
+
+    heard_right : (s : Session) (k : ℕ) (state : SessionState) (x : Heard) (answers : List Answer) → get w.sessions s.0 ≡ Some state → AreAnswersNext k answers state.down → AllRight (fair_at what (Client s) w) (answers_noted x now k answers state.client)
+    heard_right s k state x [] at next = quiet (fair_at what (Client s) w) x
+    heard_right s k state x (a ∷ answers) at next = notes_right (a ∷ answers) laws count skew greatest tale w h now within some s state at k (fair_at what (Client s) w) (hears_fair s k state at) next
 
     told_right : (s : Session) (k : ℕ) (p : Packet) (o : Option SessionState) → get w.sessions s.0 ≡ o → AreFirstOf (joined_at (state_post o) (Server k) p) (downs_of k o) → Right what (client_receive_packet_at o now s k p w)
     told_right s k p None at f = (record { plain = refl; fair = tt }, tt)
@@ -149,15 +180,16 @@ module _ (laws : SerialLaws) (count skew greatest : ℕ) (tale : Tale) (w : Serv
     -- ## At a server that there is
 
     module _ (k : ℕ) (c : Core) (post : Links) (at : slice_get w.servers k ≡ Some c) where
-      -- an answer to a log is fair in this event, after which these are all rows
-      abbrev fair_after : ServerEvent → Answers
-      fair_after e = IsFairAnswer (ServedForm w) (record { reading = now; what = what }) (rows_in (after_step k e (step c now e) seen))
+      -- what is fair in this event, after which these are all rows
+      abbrev fair_after : ServerEvent → Fairness
+      fair_after e = fair_with what (Some (Server k)) (rows_in (after_step k e (step c now e) seen))
 
       abbrev TakesIt : ServerEvent → Type 0
-      TakesIt e = TakesEvent laws skew greatest now k c seen at h.cluster (clock (timed laws) count skew greatest tale (parts_of w) h now k c at) within (fair_after e) e
+      TakesIt e = TakesEvent laws skew greatest now k c seen at h.cluster (clock (timed laws) count skew greatest tale (parts_of w) h now k c at) within (fair_after e).answers e
 
       event : (e : ServerEvent) → IsThere k e seen → TakesIt e → IsRight (fair_after e) (note.Server (step c now e).out.note)
       event e there takes = event_right laws skew greatest now k c seen at h.cluster (clock (timed laws) count skew greatest tale (parts_of w) h now k c at) within (fair_after e) e there takes
+          (λ by lease until reading z. lead_of (after_step k e (step c now e) seen) w by lease until reading (step_led k now e c seen by) z)
 
       -- the event tells a packet of the session to this server
       module _ (packet : Sent) (delivered_so : packet_delivered w what ≡ Some packet) (here : packet.to ≡ Server k) where
@@ -173,18 +205,18 @@ module _ (laws : SerialLaws) (count skew greatest : ℕ) (tale : Tale) (w : Serv
 
         -- it is one message at most
         session_right : (s : Session) (x : Heard) (es : List ServerEvent) → packet.from ≡ Client s → AreNext k (Client s) es w.sessions w.in_flight → (y : ServerStepped) → y.server ≡ c → y.in_flight ≡ flying_without_each k (Client s) es w.in_flight
-            → AllRight (fair_at what (with_server k (taking_all k now es y) w).world) (heard_notes x now es c)
+            → AllRight (fair_at what (Server k) (with_server k (taking_all k now es y) w).world) (heard_notes x now es c)
         session_right s x [] from next y is flies = quiet _ x
         session_right s x (e ∷ []) from next y is flies =
             let q = next.0 in
             let asked = FromClient s q.asked.1 in
             let right : IsRight (fair_after asked) (note.Server (step c now asked).out.note) =
             event asked (question_there (timed laws) count skew greatest tale (parts_of w) h now k c at s q.state q.asked q.there q.first) (takes_log s q.state q.asked.1 from q.there (question_found k q.state.up q.asked q.first)) in
-            let after : AllRight (fair_at what (with_server k (taking k now asked (record y { server = c; in_flight = w.in_flight })) w).world) (heard_notes x now (asked ∷ []) c) = (right, tt) in
+            let after : AllRight (fair_at what (Server k) (with_server k (taking k now asked (record y { server = c; in_flight = w.in_flight })) w).world) (heard_notes x now (asked ∷ []) c) = (right, tt) in
             let placed : record y { server = c; in_flight = w.in_flight } ≡ y =
             λ i. record y { server = sym is i; in_flight = sym flies i } in
-            subst (λ (f : ServerEvent). AllRight (fair_at what (with_server k (taking k now f y) w).world) (heard_notes x now (f ∷ []) c)) (sym q.is)
-            (subst (λ (z : ServerStepped). AllRight (fair_at what (with_server k (taking k now asked z) w).world) (heard_notes x now (asked ∷ []) c)) placed after)
+            subst (λ (f : ServerEvent). AllRight (fair_at what (Server k) (with_server k (taking k now f y) w).world) (heard_notes x now (f ∷ []) c)) (sym q.is)
+            (subst (λ (z : ServerStepped). AllRight (fair_at what (Server k) (with_server k (taking k now asked z) w).world) (heard_notes x now (asked ∷ []) c)) placed after)
         session_right s x (e ∷ f ∷ es) from next y is flies =
             let q = next.0 in
             let r = next.1.0 in
@@ -206,16 +238,40 @@ module _ (laws : SerialLaws) (count skew greatest : ℕ) (tale : Tale) (w : Serv
           subst (λ (y : ServerStepped). Right what (with_server k y w)) (sym (heard_is k now from (heard_in from p) a.heard es.0 x es.1)) (noted from is a.heard es.0 es.2 x refl (flying_alike k from js es.0 w.in_flight es.1))
         where
           noted : (from : Peer) → packet.from ≡ from → (y : Heard) (es : List ServerEvent) → AreNext k from es w.sessions w.in_flight → (x : ServerStepped) → x.server ≡ c → x.in_flight ≡ flying_without_each k from es w.in_flight
-              → AllRight (fair_at what (with_server k (taking_all k now es x) w).world) (heard_notes y now es x.server)
-          noted (Client s) is y es next x server flies = subst (λ (d : Core). AllRight (fair_at what (with_server k (taking_all k now es x) w).world) (heard_notes y now es d)) (sym server) (session_right packet delivered_so here s y es is next x server flies)
-          noted (Server i) is y es next x server flies = subst (λ (d : Core). AllRight (fair_at what (with_server k (taking_all k now es x) w).world) (heard_notes y now es d)) (sym server) (others _ es next)
+              → AllRight (fair_at what (Server k) (with_server k (taking_all k now es x) w).world) (heard_notes y now es x.server)
+          noted (Client s) is y es next x server flies = subst (λ (d : Core). AllRight (fair_at what (Server k) (with_server k (taking_all k now es x) w).world) (heard_notes y now es d)) (sym server) (session_right packet delivered_so here s y es is next x server flies)
+          noted (Server i) is y es next x server flies = subst (λ (d : Core). AllRight (fair_at what (Server k) (with_server k (taking_all k now es x) w).world) (heard_notes y now es d)) (sym server) (others es ended next)
             where
               start : Holds (timed laws) count skew greatest tale (parts_at (parts_of w) k (at_server c post w))
               start = subst (λ (servers : List Core). Holds (timed laws) count skew greatest tale (record (parts_of w) { servers = servers })) (sym (set_same w.servers k c at)) h
 
-              others : (ok : Answers) (es : List ServerEvent) → AreNext k (Server i) es w.sessions w.in_flight → AllRight ok (heard_notes y now es c)
-              others ok [] next = quiet ok y
-              others ok (e ∷ es) next = peers_right (e ∷ es) laws count skew greatest tale (parts_of w) (at_server c post w) k c at start now within i ok next
+              ok : Fairness
+              ok = fair_at what (Server k) (with_server k (taking_all k now es x) w).world
+
+              -- the rows are those after the steps of the server
+              ended : (by : Session) (lease : LeaseNo) (until reading : ℕ) → Ended (parts_at (parts_of w) k (steps k (Server i) now es (at_server c post w))) by lease until reading
+                  → ok.ended by lease until reading
+              ended by lease until reading z =
+                  let y : ServerStepped = at_server c post w in
+                  let onward = all_onward es laws count skew greatest tale (parts_of w) y k c at start now within i next in
+                  let last : ServerStepped = steps k (Server i) now es y in
+                  let all : ServerStepped = taking_all k now es x in
+                  let alike : IsAlike (taking_all k now es (without_joined k (Server i) es y)) all =
+                  all_alike k now es (without_joined k (Server i) es y) x (record { server = sym server; in_flight = sym flies }) in
+                  let same = steps_are k (Server i) now es y next in
+                  let its : IsAlike last all = record {
+                    server = ap (λ (u : ServerStepped). u.server) same ∙ alike.server;
+                    in_flight = ap (λ (u : ServerStepped). u.in_flight) same ∙ alike.in_flight;
+                  } in
+                  subst (λ (rows : List Row). IsFairLed (ServedForm w) rows by lease until reading)
+                  (ap₂ (λ (d : Core) (fs : List InFlight). rows_of_all (slice_set w.servers k d) (parcels_of fs)) its.server its.in_flight)
+                  (lead_of (cluster_of (λ u. []) (parts_at (parts_of w) k last)) w by lease until reading (onward.led by) z)
+
+              others : (fs : List ServerEvent)
+                  → ((by : Session) (lease : LeaseNo) (until reading : ℕ) → Ended (parts_at (parts_of w) k (steps k (Server i) now fs (at_server c post w))) by lease until reading → ok.ended by lease until reading)
+                  → AreNext k (Server i) fs w.sessions w.in_flight → AllRight ok (heard_notes y now fs c)
+              others [] so next = quiet ok y
+              others (e ∷ fs) so next = peers_right (e ∷ fs) laws count skew greatest tale (parts_of w) (at_server c post w) k c at start now within i ok so next
 
     -- ## At any server
 

@@ -20,8 +20,9 @@ use Rattle.fs_server.specs.Step.{step}
 use Rattle.fs_server.specs.declared.event.ServerEvent.{ServerEvent}
 use Rattle.fs_server.specs.declared.event.ServerEvent.TheVariants.{FromClient}
 use Rattle.fs_server.specs.declared.state.Server.{Server}
-use Rattle.fs_serial.specs.Cluster.{CanCome, ClientEvent, Cluster, IsThere, after_client, after_server, first_cluster}
+use Rattle.fs_serial.specs.Cluster.{CanCome, ClientEvent, Cluster, IsThere, after_client, after_server, after_step, first_cluster}
 use Rattle.fs_serial.specs.Cluster.ClientEvent.{Hears}
+use Rattle.fs_serial.specs.EndedLeases.{EndsFair, IsFairAbort}
 use Rattle.fs_serial.specs.Exchange.{LeadsTold, OneExchange}
 use Rattle.fs_serial.specs.Refusals.{IsFairStep}
 use Rattle.fs_serial.specs.Leading.{IsLeading, IsLedBy, LedHolds}
@@ -43,6 +44,15 @@ pub record SerialLaws : Type 0 where
   -- refusals are fair
   pub fair : (skew greatest now k : ℕ) (by : Session) (entries : List Entry) (s : Server) (c : Cluster) → slice_get c.servers k ≡ Some s → greatest ≤ now + skew → IsThere k (FromClient by (Ship entries)) c → ClusterHolds skew greatest c
       → IsFairStep now k by entries s c
+  -- what is told of leases that had ended is right, and so is what a server notes of them
+  pub fair_event : (skew greatest now k : ℕ) (e : ServerEvent) (s : Server) (c : Cluster) → slice_get c.servers k ≡ Some s → max s.last now ≤ greatest
+      → greatest ≤ now + skew → IsThere k e c → ClusterHolds skew greatest c → EndsFair c → EndsFair (after_server now k e c)
+  pub fair_note : (skew greatest now k : ℕ) (e : ServerEvent) (s : Server) (c : Cluster) → slice_get c.servers k ≡ Some s → max s.last now ≤ greatest
+      → greatest ≤ now + skew → IsThere k e c → ClusterHolds skew greatest c → EndsFair c
+      → IsFairAbort (after_step k e (step s now e) c) (step s now e).out.note
+  pub fair_client : (skew greatest now : ℕ) (c : Cluster) (by : Session) → ClusterHolds skew greatest c → EndsFair c
+      → (e : ClientEvent) → CanCome by e c → EndsFair (after_client by now e c)
+  pub fair_first : (servers skew term : ℕ) → EndsFair (first_cluster servers skew term)
 
 -- ## What events keep
 
@@ -52,11 +62,11 @@ pub record AsksOne (c : Cluster) (x : Session) : Type 0 where
   pub leads : LeadsTold (ends_in c x).up (c.lines x).client.led
   pub addressed : IsAddressed (c.lines x)
 
--- in some sense of what holds of a cluster where no reading was greater, and of when a client's event with a reading comes in time
+-- in some sense of what holds of a cluster where no reading was greater, and of when an event with a reading comes in time
 pub record EventLaws : Type 1 where
   pub Holds : ℕ → ℕ → Cluster → Type 0
   pub Within : ℕ → ℕ → ℕ → Type 0
-  pub event : (skew greatest now k : ℕ) (e : ServerEvent) (s : Server) (c : Cluster) → slice_get c.servers k ≡ Some s → max s.last now ≤ greatest → IsThere k e c → Holds skew greatest c → Holds skew greatest (after_server now k e c)
+  pub event : (skew greatest now k : ℕ) (e : ServerEvent) (s : Server) (c : Cluster) → slice_get c.servers k ≡ Some s → max s.last now ≤ greatest → Within skew greatest now → IsThere k e c → Holds skew greatest c → Holds skew greatest (after_server now k e c)
   pub rises : (skew greatest later : ℕ) (c : Cluster) → greatest ≤ later → Holds skew greatest c → Holds skew later c
   -- then it comes in time again with the same reading
   pub again : (skew greatest now : ℕ) → Within skew greatest now → Within skew (max greatest now) now
@@ -104,20 +114,34 @@ all_leaders skew greatest k s c at h l i =
     subst AsksAccess (sym q.leader.op)
     (moves_ask q.led.entry.op q.led.entry.reply (session_stands k skew greatest c s at h l i q.led its).leads)
 
+-- all of it, and that what is told of leases that had ended is right
+pub record TimedHolds (skew greatest : ℕ) (c : Cluster) : Type 0 where
+  pub all : ClusterHolds skew greatest c
+  pub fair : EndsFair c
+
 -- in time is an event where no reading before it is ahead of its own by more than the skew
 abbrev pub timed : SerialLaws → EventLaws
 timed laws = record {
-  Holds = ClusterHolds;
+  Holds = TimedHolds;
   Within = λ skew greatest now. greatest ≤ now + skew;
   again = λ skew greatest now within. omega (arith, within);
-  event = laws.event;
-  rises = laws.rises;
-  client = laws.client;
-  first = laws.first;
-  clock = all_clock;
-  asks = all_asks;
-  owned = all_owned;
-  exchanges = all_exchanges;
-  leaders = all_leaders;
-  led = λ skew greatest c h. h.led;
+  event = λ skew greatest now k e s c at clock within there h. record {
+    all = laws.event skew greatest now k e s c at clock there h.all;
+    fair = laws.fair_event skew greatest now k e s c at clock within there h.all h.fair;
+  };
+  rises = λ skew greatest later c rises h. record { all = laws.rises skew greatest later c rises h.all; fair = h.fair };
+  client = λ skew greatest now c by h e can within. record {
+    all = laws.client skew greatest now c by h.all e can within;
+    fair = laws.fair_client skew greatest now c by h.all h.fair e can;
+  };
+  first = λ servers skew term greatest some. record {
+    all = laws.first servers skew term greatest some;
+    fair = laws.fair_first servers skew term;
+  };
+  clock = λ skew greatest s c i h. all_clock skew greatest s c i h.all;
+  asks = λ skew greatest s c by entries i there h. all_asks skew greatest s c by entries i there h.all;
+  owned = λ skew greatest s c x i h. all_owned skew greatest s c x i h.all;
+  exchanges = λ skew greatest s c x i h. all_exchanges skew greatest s c x i h.all;
+  leaders = λ skew greatest k s c at h. all_leaders skew greatest k s c at h.all;
+  led = λ skew greatest c h. h.all.led;
 }

@@ -30,7 +30,7 @@ use Rattle.fs_world.proofs.ServerNext.{AreNext, IsNext, next_still, step_crossed
 abbrev pub parts_at : Parts → ℕ → ServerStepped → Parts
 parts_at p k x = record p { servers = slice_set p.servers k x.server; sessions = x.sessions; in_flight = x.in_flight; journal = x.journal }
 
-module _ (laws : EventLaws) (count skew greatest : ℕ) (tale : Tale) (p : Parts) (x : ServerStepped) (k : ℕ) (c : Core) (at : slice_get p.servers k ≡ Some c) (h : Holds laws count skew greatest tale (parts_at p k x)) (now : ℕ) where
+module _ (laws : EventLaws) (count skew greatest : ℕ) (tale : Tale) (p : Parts) (x : ServerStepped) (k : ℕ) (c : Core) (at : slice_get p.servers k ≡ Some c) (h : Holds laws count skew greatest tale (parts_at p k x)) (now : ℕ) (within : laws.Within skew greatest now) where
   here : slice_get (slice_set p.servers k x.server) k ≡ Some x.server
   here = get_here p.servers k c x.server at
 
@@ -48,11 +48,11 @@ module _ (laws : EventLaws) (count skew greatest : ℕ) (tale : Tale) (p : Parts
       subst (λ (f : ServerEvent). Holds laws count skew (max greatest now) tale (parts_at p k (taking k now f (without_message k (Client s) x)))) (sym q.is)
       (subst (λ (o : Option SessionState). Holds laws count skew (max greatest now) tale (parts_at p k (taking k now (FromClient s q.asked.1) (record x { sessions = without_up k o s.0 x.sessions })))) (sym q.there)
       (set_once (FromClient s q.asked.1) (without_up k (Some q.state) s.0 x.sessions) x.in_flight
-      (message_holds laws count skew greatest tale (parts_at p k x) h now k x.server here s q.state q.asked q.there q.first)))
+      (message_holds laws count skew greatest tale (parts_at p k x) h now k x.server here within s q.state q.asked q.there q.first)))
   one_holds (Server i) e q =
       subst (λ (f : ServerEvent). Holds laws count skew (max greatest now) tale (parts_at p k (taking k now f (without_message k (Server i) x)))) (sym q.is)
       (set_once (FromPeer i q.flies.message) x.sessions (flying_without k (Server i) x.in_flight)
-      (server_holds laws count skew greatest tale (parts_at p k x) h now k x.server here (FromPeer i q.flies.message) x.sessions refl (λ t i. i)
+      (server_holds laws count skew greatest tale (parts_at p k x) h now k x.server here within (FromPeer i q.flies.message) x.sessions refl (λ t i. i)
       (flying_there laws count skew greatest tale (parts_at p k x) h now k x.server here i q.flies q.first)
       (flying_of_joined laws count skew greatest tale (parts_at p k x) h now k x.server here i q.flies q.first)))
 
@@ -63,11 +63,11 @@ later_next k from now e es x next =
     next_still k from es (sent_at now e x.server) (sessions_without k from x.sessions) (flying_without k from x.in_flight) (in_flight_from k (sent_at now e x.server)) next.1
 
 pub all_hold : (es : List ServerEvent) (laws : EventLaws) (count skew greatest : ℕ) (tale : Tale) (p : Parts) (x : ServerStepped) (k : ℕ) (c : Core) → slice_get p.servers k ≡ Some c → Holds laws count skew greatest tale (parts_at p k x)
-    → (now : ℕ) (from : Peer) → AreNext k from es x.sessions x.in_flight → Holds laws count skew (max greatest now) tale (parts_at p k (taking_all k now es (without_joined k from es x)))
-all_hold [] laws count skew greatest tale p x k c at h now from next = holds_later laws count skew greatest tale (parts_at p k x) h (max greatest now) (omega arith)
-all_hold (e ∷ es) laws count skew greatest tale p x k c at h now from next =
+    → (now : ℕ) → laws.Within skew greatest now → (from : Peer) → AreNext k from es x.sessions x.in_flight → Holds laws count skew (max greatest now) tale (parts_at p k (taking_all k now es (without_joined k from es x)))
+all_hold [] laws count skew greatest tale p x k c at h now within from next = holds_later laws count skew greatest tale (parts_at p k x) h (max greatest now) (omega arith)
+all_hold (e ∷ es) laws count skew greatest tale p x k c at h now within from next =
     let y : ServerStepped = without_message k from x in
-    let then = all_hold es laws count skew (max greatest now) tale p (taking k now e y) k c at (one_holds laws count skew greatest tale p x k c at h now from e next.0) now from (later_next k from now e es x next) in
+    let then = all_hold es laws count skew (max greatest now) tale p (taking k now e y) k c at (one_holds laws count skew greatest tale p x k c at h now within from e next.0) now (laws.again skew greatest now within) from (later_next k from now e es x next) in
     let same : max (max greatest now) now ≡ max greatest now = omega arith in
     subst (λ (z : ServerStepped). Holds laws count skew (max greatest now) tale (parts_at p k (taking_all k now es z))) (step_crossed k from es now e y next.1)
     (subst (λ (g : ℕ). Holds laws count skew g tale (parts_at p k (taking_all k now es (without_joined k from es (taking k now e y))))) same then)

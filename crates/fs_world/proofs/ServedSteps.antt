@@ -65,7 +65,7 @@ module _ (laws : EventLaws) (count skew greatest : ℕ) (tale : Tale) (w : Serve
         let x : ServerStepped = record (at_server c post w) { post = a.links } in
         let es = events_in w k from js f in
         let start : Holds laws count skew greatest tale (parts_at (parts_of w) k x) = subst (λ (servers : List Core). Holds laws count skew greatest tale (record (parts_of w) { servers = servers })) (sym (set_same w.servers k c at)) h in
-        let then = all_hold es.0 laws count skew greatest tale (parts_of w) x k c at start now from es.2 in
+        let then = all_hold es.0 laws count skew greatest tale (parts_of w) x k c at start now within from es.2 in
         let all : Holds laws count skew (max greatest now) tale (parts_at (parts_of w) k (taking_all k now es.0 (without_joined k from js x))) =
         subst (λ (m : SessionStates). Holds laws count skew (max greatest now) tale (parts_at (parts_of w) k (taking_all k now es.0 (record x { sessions = m; in_flight = flying_without_each k from js w.in_flight })))) (sym (sessions_alike k from js es.0 w.sessions es.1))
         (subst (λ (fs : List InFlight). Holds laws count skew (max greatest now) tale (parts_at (parts_of w) k (taking_all k now es.0 (record x { sessions = sessions_without_each k from es.0 w.sessions; in_flight = fs })))) (sym (flying_alike k from js es.0 w.in_flight es.1)) then) in
@@ -75,7 +75,7 @@ module _ (laws : EventLaws) (count skew greatest : ℕ) (tale : Tale) (w : Serve
     -- what no message brings
     own_step : (turn : Bool) (e : ServerEvent) → lines_of w.term w.sessions ≡ without_question k e (lines_of w.term w.sessions) → IsThere k e (cluster_of h.replied (parts_of w)) → IsAsked (HasJoined w.sessions) e
         → Holds laws count skew (max greatest now) tale (after_core laws count skew greatest tale (parts_of w) h now k c at e w.sessions)
-    own_step turn e taken there asker = server_holds laws count skew greatest tale (parts_of w) h now k c at e w.sessions taken (λ x i. i) there asker
+    own_step turn e taken there asker = server_holds laws count skew greatest tale (parts_of w) h now k c at within e w.sessions taken (λ x i. i) there asker
 
   -- ## At any server
 

@@ -112,7 +112,7 @@ module _ (laws : EventLaws) (count skew greatest : ℕ) (tale : Tale) (p : Parts
     journal = p.journal ++ (step s now e).out.admitted;
   }
 
-  module _ (e : ServerEvent) (before : SessionStates) (taken : lines_of p.term before ≡ without_question k e (lines_of p.term p.sessions))
+  module _ (within : laws.Within skew greatest now) (e : ServerEvent) (before : SessionStates) (taken : lines_of p.term before ≡ without_question k e (lines_of p.term p.sessions))
       (stay : (x : Session) → HasJoined p.sessions x → HasJoined before x) (there : IsThere k e c)
       (asker : IsAsked (HasJoined before) e) where
     step_is : IsOf (HasJoined before) (step s now e)
@@ -139,13 +139,14 @@ module _ (laws : EventLaws) (count skew greatest : ℕ) (tale : Tale) (p : Parts
 
     then_holds : laws.Holds skew (max greatest now) then
     then_holds = subst (λ (d : Cluster). laws.Holds skew (max greatest now) d) core_seen
-        (laws.event skew (max greatest now) now k e s c at in_time there later_holds)
+        (laws.event skew (max greatest now) now k e s c at in_time
+        (laws.again skew greatest now within) there later_holds)
 
     asks_one : (x : Session) → AsksOne then x
     asks_one x = laws.exchanges skew (max greatest now) (step s now e).server then x
         (In_new p.servers k s (step s now e).server at) then_holds
 
-    step_is_then : after_step k e (step s now e) c ≡ then
+    pub step_is_then : after_step k e (step s now e) c ≡ then
     step_is_then = sym (ap (λ (o : Option Server). after_server_at o now k e c) at) ∙ core_seen
 
     -- what it brings to each session
@@ -216,11 +217,11 @@ module _ (laws : EventLaws) (count skew greatest : ℕ) (tale : Tale) (p : Parts
       ∙ ap (λ (n : Lines). with_lines by (record n { up = without_first (is_with k) n.up }) (lines_of p.term p.sessions))
       (sym (ap (lines_in p.term by) is))
 
-  pub message_holds : (by : Session) (state : SessionState) (m : ℕ × ClientMsg) → get p.sessions by.0 ≡ Some state
+  pub message_holds : laws.Within skew greatest now → (by : Session) (state : SessionState) (m : ℕ × ClientMsg) → get p.sessions by.0 ≡ Some state
       → find (is_with k) state.up ≡ Some m
       → Holds laws count skew (max greatest now) tale
       (after_core (FromClient by m.1) (insert p.sessions by.0 (record state { up = without_first (is_with k) state.up })))
-  message_holds by state m is first = server_holds (FromClient by m.1)
+  message_holds within by state m is first = server_holds within (FromClient by m.1)
       (insert p.sessions by.0 (record state { up = without_first (is_with k) state.up }))
       (question_taken by state m.1 is) (λ x i. joined_still p.sessions by x (record state { up = without_first (is_with k) state.up }) i)
       (question_there by state m is first)

@@ -1,10 +1,13 @@
--- What a server refuses, and that no actor is told what no honest actor sends.
+-- What a server refuses, why an operation that it leads is given up, and that no actor is told what no honest actor sends.
 use Rattle.std.specs.Prelude.{◌≡◌, ℕ, max, Bool, true, false, ◌||◌, List, [], ◌∷◌, Option, Some, None, slice_get}
 use Rattle.std.specs.FinMap.{get}
 use Rattle.std.specs.List.{AllByRecursion, find}
+use Rattle.fs_ident.specs.declared.actor.LeaseNo.{LeaseNo}
+use Rattle.fs_ident.specs.declared.actor.Peer.{Peer}
 use Rattle.fs_ident.specs.declared.actor.Peer.TheVariants as peer
 use Rattle.fs_ident.specs.declared.actor.Session.{Session}
 use Rattle.fs_field.specs.declared.row.Row.{Row}
+use Rattle.fs_field.specs.declared.used.Use.{Use}
 use Rattle.fs_msg.specs.declared.client_msg.ClientMsg.TheVariants.{Ship}
 use Rattle.fs_msg.specs.declared.client_note.ClientNote.TheVariants as client
 use Rattle.fs_msg.specs.declared.end.End.{End}
@@ -12,12 +15,14 @@ use Rattle.fs_msg.specs.declared.entry.Entry.{Entry}
 use Rattle.fs_msg.specs.declared.note.Note.{Note}
 use Rattle.fs_msg.specs.declared.note.Note.TheVariants as note
 use Rattle.fs_msg.specs.declared.server_note.ServerNote.TheVariants as server
+use Rattle.fs_client.specs.declared.led.Led.{Led}
 use Rattle.fs_schedule.specs.declared.event.Event.{Event}
 use Rattle.fs_schedule.specs.declared.event.What.{What}
 use Rattle.fs_schedule.specs.declared.event.What.TheVariants.{Tell}
 use Rattle.fs_serial.specs.Cluster.{is_with, parcels_of}
 use Rattle.fs_serial.specs.Joined.{rows_of_all}
 use Rattle.fs_serial.specs.Refusals.{IsFairEnd}
+use Rattle.fs_serial.specs.Steps.{HadEnded}
 use Rattle.fs_schedule.specs.declared.outcome.Outcome.{Outcome}
 use Rattle.fs_server.specs.declared.state.Server.{Server as Core}
 use Rattle.fs_window.specs.declared.sent.Sent.{Sent}
@@ -58,20 +63,48 @@ abbrev pub IsFairAnswer : Form → Event → List Row → ℕ → End → List �
 IsFairAnswer (Direct w) e rows count at gaps = ⊥
 IsFairAnswer (Served w) e rows count at gaps = (h : HandsIn w e.what) × IsFairEnd rows h.by (max h.server.last e.reading) h.entries count at gaps
 
--- what is noted, if it is an answer to a log, is one of these
-abbrev pub IsFair : (ℕ → End → List ℕ → Type 0) → Note → Type 0
-IsFair answers (note.Server (server.Admits count at gaps)) = answers count at gaps
-IsFair answers n = Unit {0}
+-- ## Operations that are given up
+
+-- the session had an operation led that used the lease; the lease had ended at that reading, and none of these rows, which are all,
+-- has its number
+pub record IsEndedLead (w : TheServed) (rows : List Row) (by : Session) (lease : LeaseNo) (end now : ℕ) : Type 0 where
+  pub state : SessionState
+  pub joined : get w.sessions by.0 ≡ Some state
+  pub led : Led
+  pub waits : state.client.led ≡ Some led
+  pub used : Use
+  pub no : used.no ≡ lease
+  pub until : used.until ≡ end
+  pub had : HadEnded rows now led.entry used
+
+-- so an operation that was led is given up because of a lease; in the direct form none is led
+abbrev pub IsFairLed : Form → List Row → Session → LeaseNo → ℕ → ℕ → Type 0
+IsFairLed (Direct w) rows by lease end now = ⊥
+IsFairLed (Served w) rows by lease end now = IsEndedLead w rows by lease end now
+
+-- ## What is noted
+
+-- an answer to a log is one of these; where a server gives up what it led because of a lease, that is so of some session, and where
+-- a session hears of it, of this one
+abbrev pub IsFair : (ℕ → End → List ℕ → Type 0) → (Session → LeaseNo → ℕ → ℕ → Type 0) → Option Peer → Note → Type 0
+IsFair answers ended who (note.Server (server.Admits count at gaps)) = answers count at gaps
+IsFair answers ended who (note.Server (server.AbortsEnded txn lease until now)) = (by : Session) × ended by lease until now
+IsFair answers ended who (note.Client (client.LedEnded lease until now)) = (by : Session) × (who ≡ Some (peer.Client by)) × ended by lease until now
+IsFair answers ended who n = Unit {0}
 
 -- all rows of the servers and of the parcels on their way; in the direct form there are no leases
 abbrev pub rows_of : Form → List Row
 rows_of (Direct w) = []
 rows_of (Served w) = rows_of_all w.servers (parcels_of w.in_flight)
 
--- each note of the events is so, one after another, from this world on, with the rows that stand after the event
+-- the notes of this outcome of the event are so, with the rows that stand after it
+abbrev pub NotesFair : Form → Event → Outcome → List Row → Type 0
+NotesFair w e o rows = AllByRecursion (IsFair (IsFairAnswer w e rows) (IsFairLed w rows) o.who) o.notes
+
+-- those of each event are, one after another, from this world on
 abbrev pub AllFair : Form → List Event → Type 0
 AllFair w [] = Unit {0}
-AllFair w (e ∷ es) = AllByRecursion (IsFair (IsFairAnswer w e (rows_of (step w e).world))) (step w e).outcome.notes × AllFair (step w e).world es
+AllFair w (e ∷ es) = NotesFair w e (step w e).outcome (rows_of (step w e).world) × AllFair (step w e).world es
 
 -- ## Strange messages
 

@@ -282,7 +282,7 @@ module _ (skew greatest k : ℕ) (c : Cluster) (s : Server) (at : slice_get c.se
       same_later c (after_step k e (event_step e s) c) (move_same k c s prefix to at h.places).0
       (rises (event_step e s).server (move_given (move_refusal s.records s.rows s.map s.me prefix to None) prefix to s))
 
-  other_later : (e : ServerEvent) → IsThere k e c → IsNoneOfLed e → RowsLater c (after_step k e (event_step e s) c)
+  pub other_later : (e : ServerEvent) → IsThere k e c → IsNoneOfLed e → RowsLater c (after_step k e (event_step e s) c)
   other_later (event.FromClient by (Ask items dir)) there none = asked_later by (Ask items dir) there tt
   other_later (event.FromClient by (Renew pairs)) there none = asked_later by (Renew pairs) there tt
   other_later (event.FromClient by (Release pairs)) there none = asked_later by (Release pairs) there tt
