@@ -86,11 +86,16 @@ fn replayed(
     tail: &[u8],
 ) -> Result<(Status, Vec<u8>), Fail> {
     let mut bytes = Vec::from_slice(alloc, head)?;
+    add_copies(&mut bytes, copy, times)?;
+    bytes.extend_from_slice(tail)?;
+    called(alloc, &["replay"], bytes, &[], &[])
+}
+
+fn add_copies(bytes: &mut Vec<u8>, copy: &[u8], times: usize) -> Result<(), Fail> {
     for _ in 0..times {
         bytes.extend_from_slice(copy)?;
     }
-    bytes.extend_from_slice(tail)?;
-    called(alloc, &["replay"], bytes, &[], &[])
+    Ok(())
 }
 
 /// The report of the schedule.
@@ -471,4 +476,50 @@ fn words_that_are_no_form(rt: HostRuntime) -> Result<(), Fail> {
 fn packets_have_a_limit(rt: HostRuntime) {
     same(&rt, flooded(1_048_576, 7), None);
     same(&rt, flooded(1_048_577, 7), Some(7));
+}
+
+/// Four packets are sent, of which the last is never told.
+const FOUR: &[u8] = b"farsite 1 servers 1 skew 10 term 100
+0 join c1
+0 do c1 lookup / \"a\"
+0 tell 0
+0 tell 1
+0 tell 2
+0 join c2
+0 do c2 lookup / \"a\"
+";
+
+/// How a run ends in which 63 packets follow, one by one, and all these again at each of 16,643 turns: as many as may be. Then
+/// comes the tail.
+fn flood(alloc: Global, tail: &[u8]) -> Result<(Status, Vec<u8>), Fail> {
+    let mut bytes = Vec::from_slice(alloc, FOUR)?;
+    add_copies(&mut bytes, b"0 recall s0 child / \"a\"\n", 63)?;
+    add_copies(&mut bytes, b"0 turn s0\n", 16_643)?;
+    bytes.extend_from_slice(tail)?;
+    called(alloc, &["journal"], bytes, &[], &[])
+}
+
+/// The run ends so, and writes something or nothing.
+fn floods(
+    rt: &impl Abort,
+    alloc: Global,
+    tail: &[u8],
+    wanted: Status,
+    told: bool,
+) -> Result<(), Fail> {
+    let (status, written) = flood(alloc, tail)?;
+    same(rt, status, wanted);
+    same(rt, written.is_empty(), !told);
+    Ok(())
+}
+
+/// One more is a packet that is sent again.
+#[test]
+fn a_run_sends_as_many_packets_as_may_be(rt: HostRuntime) -> Result<(), Fail> {
+    floods(&rt, rt.alloc(), NONE, Status::Done, true)?;
+    let wanted = Status::Limit {
+        which: Which::Packets,
+        at: 16_715,
+    };
+    floods(&rt, rt.alloc(), b"0 turn c2\n", wanted, false)
 }

@@ -306,5 +306,5 @@ fn are_records(records: &[(FileId, Record)]) -> bool
 fn is_record(kept: &Record) -> bool
     ensures { result ≡ true → IsRecord kept.now }
 {
-    kept.next >= 1 && kept.next <= 4294967296 && kept.is_in_order()
+    kept.has_number_left() && kept.is_in_order()
 }

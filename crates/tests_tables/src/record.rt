@@ -448,3 +448,31 @@ fn new_records_are_in_order(rt: HostRuntime) -> Result<(), Fail> {
     same(&rt, is, true);
     Ok(())
 }
+
+/// The record of a directory with this next number.
+fn numbered(alloc: Global, next: u64) -> Record {
+    Record {
+        node: Node::new(alloc, Kind::Dir, None),
+        next,
+    }
+}
+
+/// Next numbers, and whether one may be a record's.
+const NEXTS: [(u64, bool); 5] = [
+    (0, false),
+    (1, true),
+    (4294967295, true),
+    (4294967296, true),
+    (4294967297, false),
+];
+
+#[test]
+fn next_numbers_have_two_ends(rt: HostRuntime) -> Result<(), Fail> {
+    for (next, wanted) in NEXTS {
+        let record = numbered(rt.alloc(), next);
+        let is_left = record.has_number_left();
+        spend(record);
+        same(&rt, (next, is_left), (next, wanted));
+    }
+    Ok(())
+}

@@ -1,6 +1,8 @@
 //! How rows lapse and move, each call, and which leases go together.
 ghost use Rattle.std.specs.Prelude.{◌≡◌, ◌<◌, [], true, IfOk};
+ghost use Rattle.std.specs.List.{filter};
 ghost use Rattle.fs_field.specs.Field.{tells_no_mode};
+ghost use Rattle.fs_field.specs.Table.{is_live};
 ghost use Rattle.fs_rows.specs.Granted.{with_rows};
 ghost use Rattle.fs_rows.specs.Table.{IsTable};
 
@@ -197,6 +199,25 @@ fn rows_are_read_at_a_reading(rt: HostRuntime) -> Result<(), Fail> {
     done
 }
 
+/// A row of the first session, alone, which is over at 110 where clocks differ by 10.
+fn first_row(alloc: Global) -> Result<List<Row>, Fail>
+    ensures table { IfOk result (λ rows. IsTable (with_rows rows [])) }
+    ensures over { IfOk result (λ rows. filter (is_live 110 10) (with_rows rows []) ≡ []) }
+{
+    let field = life(alloc)?;
+    let mut rows = List::new(alloc);
+    rows.push(Row {
+        no: FIRST,
+        session: Session(1),
+        field,
+        kind: LeaseKind::Shared,
+        until: 100,
+        promise: None,
+        lock: None,
+    })?;
+    Ok(rows)
+}
+
 /// A row of the second session, alone.
 fn second_row(alloc: Global) -> Result<List<Row>, Fail>
     ensures { IfOk result (λ rows. IsTable (with_rows rows [])) }
@@ -215,19 +236,32 @@ fn second_row(alloc: Global) -> Result<List<Row>, Fail>
     Ok(rows)
 }
 
-/// Whether the second row is there once it is granted.
-fn grants_second(alloc: Global) -> Result<bool, Fail> {
-    let more = second_row(alloc)?;
+/// The table with the first row alone.
+fn with_first(alloc: Global) -> Result<Rows, Fail>
+    ensures { IfOk result (λ rows. filter (is_live 110 10) rows ≡ []) }
+{
+    let first = first_row(alloc)?;
     let mut rows = Rows::new(alloc);
-    let done = rows.grant_all(alloc, 110, 10, more);
-    let has = rows.row(SECOND).is_some();
-    spend(rows);
-    kept_by(has, done)
+    rows.grant_all(alloc, 0, 10, first)?;
+    Ok(rows)
 }
 
+/// The rows that are there before the second is granted and behind it, of the first and the second.
+fn grants_second(alloc: Global) -> Result<[bool; 4], Fail> {
+    let more = second_row(alloc)?;
+    let mut rows = with_first(alloc)?;
+    let before = (rows.row(FIRST).is_some(), rows.row(SECOND).is_some());
+    let done = rows.grant_all(alloc, 110, 10, more);
+    let behind = (rows.row(FIRST).is_some(), rows.row(SECOND).is_some());
+    spend(rows);
+    kept_by([before.0, before.1, behind.0, behind.1], done)
+}
+
+/// What is over goes as another comes.
 #[test]
 fn rows_are_granted_at_once(rt: HostRuntime) -> Result<(), Fail> {
-    same(&rt, grants_second(rt.alloc())?, true);
+    let wanted = [true, false, false, true];
+    same(&rt, grants_second(rt.alloc())?, wanted);
     Ok(())
 }
 

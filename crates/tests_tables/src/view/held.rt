@@ -95,11 +95,11 @@ fn is_pinned(rt: &impl Abort, view: &mut View, uses: &List<Use>) -> Result<(), F
     Ok(())
 }
 
-/// Once no entry uses it, it goes.
+/// Once no entry uses it, it goes, and none can.
 fn is_given_up(rt: &impl Abort, view: &mut View, uses: &List<Use>) {
     view.unpin(uses);
     view.give_up(FIRST);
-    same(rt, view.has(FIRST), false);
+    same(rt, (view.has(FIRST), view.can_pin(uses)), (false, false));
 }
 
 fn pins_with(
