@@ -160,10 +160,13 @@ module _ (laws : SerialLaws) (count skew greatest : ℕ) (tale : Tale) (w : Serv
     -- a session hears that what it had led is refused where that lease had ended
     hears_fair : (s : Session) (k : ℕ) (state : SessionState) → get w.sessions s.0 ≡ Some state → (a : Answer) → In (k, a) state.down → HearsFair (fair_at what (Client s) w) a
     hears_fair s k state at a i lease until reading is =
-        let own : lines_of w.term w.sessions s ≡ lines_in w.term s (Some state) = ap (lines_in w.term s) at in
-        (s, refl, lead_of seen w s lease until reading refl (h.cluster.fair.told s k lease until reading
-        (subst (λ (n : Lines). In (k, answer.Led (led_end.Ended lease until reading)) n.down) (sym own)
-        (subst (λ b. In (k, b) state.down) is i))))
+        let own : lines_of w.term w.sessions s ≡ lines_in w.term s (Some state) = ap (lines_in w.term s) at in (
+          s,
+          refl,
+          lead_of seen w s lease until reading refl (h.cluster.fair.told s k lease until reading
+              (subst (λ (n : Lines). In (k, answer.Led (led_end.Ended lease until reading)) n.down) (sym own)
+              (subst (λ b. In (k, b) state.down) is i))),
+        )
 
     heard_right : (s : Session) (k : ℕ) (state : SessionState) (x : Heard) (answers : List Answer) → get w.sessions s.0 ≡ Some state → AreAnswersNext k answers state.down → AllRight (fair_at what (Client s) w) (answers_noted x now k answers state.client)
     heard_right s k state x [] at next = quiet (fair_at what (Client s) w) x
