@@ -223,6 +223,9 @@ pub fn what_is_led_ends_fairly()
     ensures run { (skew greatest : ℕ) (events : List Dated) (c : Cluster) →
         ClusterHolds skew greatest c → EndsFair c → IsRun skew greatest events c →
         EndsFair (run events c) }
+    ensures always { (servers skew term : ℕ) (events : List Dated) → 1 ≤ servers →
+        IsRun skew 0 events (first_cluster servers skew term) →
+        EndsFair (run events (first_cluster servers skew term)) }
     ensures noted { (skew greatest now k : ℕ) (e : ServerEvent) (s : Server) (c : Cluster) →
         slice_get c.servers k ≡ Some s → max s.last now ≤ greatest →
         greatest ≤ max s.last now + skew → IsThere k e c → ClusterHolds skew greatest c →

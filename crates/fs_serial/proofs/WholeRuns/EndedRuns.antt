@@ -17,6 +17,7 @@ use Rattle.fs_serial.specs.Cluster.ClientEvent.{Hears}
 use Rattle.fs_serial.specs.EndedLeases.{EndsFair, IsFairAbort, WasEnded}
 use Rattle.fs_serial.specs.Runs.{AtClient, AtServer, CanHappen, ClusterEvent, Dated, IsRun, after_event, run}
 use Rattle.fs_serial.specs.Seen.{ClusterHolds}
+use Rattle.fs_serial.proofs.Transactions.FirstStands.{first_stands}
 use Rattle.fs_serial.proofs.WholeRuns.ClusterRuns.{cluster_later, event_keeps}
 use Rattle.fs_serial.proofs.WholeRuns.EndedClients.{client_keeps_fair}
 use Rattle.fs_serial.proofs.WholeRuns.EndedEvents.{server_keeps_fair}
@@ -89,3 +90,9 @@ run_fair skew greatest [] c h f r = f
 run_fair skew greatest (e ∷ es) c h f r =
     run_fair skew (max greatest e.now) es (after_event e.now e.what c) (event_keeps skew greatest e.now e.what c h r.0 r.1)
     (event_right skew greatest e.now e.what c h f r.0 r.1) r.2
+
+-- from the start on
+pub all_fair : (servers skew term : ℕ) (es : List Dated) → 1 ≤ servers → IsRun skew 0 es (first_cluster servers skew term)
+    → EndsFair (run es (first_cluster servers skew term))
+all_fair servers skew term es some r =
+    run_fair skew 0 es (first_cluster servers skew term) (first_stands servers skew term 0 some) (first_fair servers skew term) r
