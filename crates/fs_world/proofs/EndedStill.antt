@@ -91,8 +91,7 @@ applied_locks k from m s = record {
 
 -- ## What comes
 
-module _ (skew greatest k : ℕ) (c : Cluster) (s : Server) (at : slice_get c.servers k ≡ Some s) (h : ClusterHolds skew greatest c)
-    (from : ℕ) where
+module _ (skew greatest k : ℕ) (c : Cluster) (s : Server) (at : slice_get c.servers k ≡ Some s) (h : ClusterHolds skew greatest c) (from : ℕ) where
   locks_later : (m : PeerMsg) → parcel_in m ≡ None → IsThere k (FromPeer from m) c
       → OnlyLocks k s (peer_step from m s) → RowsLater c (after_step k (FromPeer from m) (peer_step from m s) c)
   locks_later m plain there q =
@@ -104,8 +103,7 @@ module _ (skew greatest k : ℕ) (c : Cluster) (s : Server) (at : slice_get c.se
   comes_later : (m : PeerMsg) → IsThere k (FromPeer from m) c → RowsLater c (after_step k (FromPeer from m) (peer_step from m s) c)
   comes_later (OfParcel p) there = other_later skew greatest k c s at h (FromPeer from (OfParcel p)) there refl
   comes_later (Prepare m) there = locks_later (Prepare m) refl there
-      (elim (is_prepared m.txn m.number s.prepared) as
-      (λ b. OnlyLocks k s (cond b (strange s) (votes (vote_here s m.session m.part) from m s))) [
+      (elim (is_prepared m.txn m.number s.prepared) as (λ b. OnlyLocks k s (cond b (strange s) (votes (vote_here s m.session m.part) from m s))) [
         | true ↦ strange_locks k s
         | false ↦ voted_locks k from m s (vote_here s m.session m.part)
       ])
@@ -139,8 +137,7 @@ comes_still skew greatest now k s c at clock h from m there by number end readin
     let then : Cluster = after_step k e (event_step e b) started in
     let later : RowsLater started then = comes_later skew greatest k started b (get_here c.servers k s b at)
     (begins_stands skew greatest now k s c at clock h) from m (there_begun now k s e c there) in
-    subst (λ (ss : List Server). WasEnded (record after { servers = ss }) by number end reading)
-    (set_twice c.servers k b (step s now e).server)
+    subst (λ (ss : List Server). WasEnded (record after { servers = ss }) by number end reading) (set_twice c.servers k b (step s now e).server)
     (ended_stays started then by number end reading later
     (ap (λ (z : Client). z.led) (sent_client k (step s now e).out.send (without_question k e c.lines) by ∙ taken_client k e c.lines by))
     (ended_stays c started by number end reading fewer refl w))

@@ -121,8 +121,7 @@ abbrev pub HearsFair : Fairness → Answer → Type 0
 HearsFair ok a = (lease : LeaseNo) (until now : ℕ) → a ≡ answer.Led (led_end.Ended lease until now)
     → (by : Session) × (ok.who ≡ Some (OfSession by)) × ok.ended by lease until now
 
-ended_fair : (ok : Fairness) (o : Option Led) (e : LedEnd) (c : Client) → HearsFair ok (answer.Led e)
-    → NoteFair ok (note.Client (led_plan o e c).out.note)
+ended_fair : (ok : Fairness) (o : Option Led) (e : LedEnd) (c : Client) → HearsFair ok (answer.Led e) → NoteFair ok (note.Client (led_plan o e c).out.note)
 ended_fair ok None e c h = tt
 ended_fair ok (Some l) (led_end.Done r) c h = tt
 ended_fair ok (Some l) (led_end.Ended lease until now) c h = h lease until now refl
@@ -136,8 +135,7 @@ told_fair ok (answer.Shipped count e) c h = tt
 told_fair ok (answer.Led e) c h = ended_fair ok c.led e c h
 told_fair ok (answer.Recall number) c h = tt
 
-pub answer_right : (ok : Fairness) (c : Client) (now k : ℕ) (a : Answer) → HearsFair ok a
-    → (answer_plan c now k a).out.note ≢ client_note.Strange
+pub answer_right : (ok : Fairness) (c : Client) (now k : ℕ) (a : Answer) → HearsFair ok a → (answer_plan c now k a).out.note ≢ client_note.Strange
     → IsRight ok (note.Client (answer_plan c now k a).out.note)
 answer_right ok c now k a h plain = plain_client ok (answer_plan c now k a).out.note plain (heard (fits k c.exchange a (begun now c)))
   where
@@ -273,7 +271,7 @@ module _ (laws : SerialLaws) (skew greatest now k : ℕ) (s : Server) (c : Clust
       record {
         plain = plain_server (step s now e).out.note (laws.server_plain skew (max greatest now) now k e s c at (omega arith) there later);
         fair = both_fair ok (step s now e).out.note (event_fair ok.answers e there takes) (λ txn lease until reading is.
-            let q = laws.fair_note skew (max greatest now) now k e s c at (omega (arith, clock)) (omega (arith, within))
-            there later h.fair txn lease until reading is in
+            let q = laws.fair_note skew (max greatest now) now k e s c at (omega (arith, clock)) (omega (arith, within)) there later h.fair txn lease
+            until reading is in
             (q.0, ended q.0 lease until reading q.1));
       }

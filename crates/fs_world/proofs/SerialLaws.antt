@@ -45,10 +45,10 @@ pub record SerialLaws : Type 0 where
   pub fair : (skew greatest now k : ℕ) (by : Session) (entries : List Entry) (s : Server) (c : Cluster) → slice_get c.servers k ≡ Some s → greatest ≤ now + skew → IsThere k (FromClient by (Ship entries)) c → ClusterHolds skew greatest c
       → IsFairStep now k by entries s c
   -- what is told of leases that had ended is right, and so is what a server notes of them
-  pub fair_event : (skew greatest now k : ℕ) (e : ServerEvent) (s : Server) (c : Cluster) → slice_get c.servers k ≡ Some s
-      → max s.last now ≤ greatest → greatest ≤ now + skew → IsThere k e c → ClusterHolds skew greatest c → EndsFair c → EndsFair (after_server now k e c)
-  pub fair_note : (skew greatest now k : ℕ) (e : ServerEvent) (s : Server) (c : Cluster) → slice_get c.servers k ≡ Some s
-      → max s.last now ≤ greatest → greatest ≤ now + skew → IsThere k e c → ClusterHolds skew greatest c → EndsFair c
+  pub fair_event : (skew greatest now k : ℕ) (e : ServerEvent) (s : Server) (c : Cluster) → slice_get c.servers k ≡ Some s → max s.last now ≤ greatest
+      → greatest ≤ now + skew → IsThere k e c → ClusterHolds skew greatest c → EndsFair c → EndsFair (after_server now k e c)
+  pub fair_note : (skew greatest now k : ℕ) (e : ServerEvent) (s : Server) (c : Cluster) → slice_get c.servers k ≡ Some s → max s.last now ≤ greatest
+      → greatest ≤ now + skew → IsThere k e c → ClusterHolds skew greatest c → EndsFair c
       → IsFairAbort (after_step k e (step s now e) c) (step s now e).out.note
   pub fair_client : (skew greatest now : ℕ) (c : Cluster) (by : Session) → ClusterHolds skew greatest c → EndsFair c
       → (e : ClientEvent) → CanCome by e c → EndsFair (after_client by now e c)

@@ -89,8 +89,7 @@ IsFairLed (Served w) rows by lease end now = IsEndedLead w rows by lease end now
 abbrev pub IsFair : (ℕ → End → List ℕ → Type 0) → (Session → LeaseNo → ℕ → ℕ → Type 0) → Option Peer → Note → Type 0
 IsFair answers ended who (note.Server (server.Admits count at gaps)) = answers count at gaps
 IsFair answers ended who (note.Server (server.AbortsEnded txn lease until now)) = (by : Session) × ended by lease until now
-IsFair answers ended who (note.Client (client.LedEnded lease until now)) =
-    (by : Session) × (who ≡ Some (peer.Client by)) × ended by lease until now
+IsFair answers ended who (note.Client (client.LedEnded lease until now)) = (by : Session) × (who ≡ Some (peer.Client by)) × ended by lease until now
 IsFair answers ended who n = Unit {0}
 
 -- all rows of the servers and of the parcels on their way; in the direct form there are no leases
