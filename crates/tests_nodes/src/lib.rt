@@ -4,8 +4,6 @@
 #[cfg(test)]
 mod led;
 #[cfg(test)]
-mod led_between;
-#[cfg(test)]
 mod nodes;
 #[cfg(test)]
 mod several;
