@@ -258,6 +258,32 @@ class Telling:
         whose = f" of {client.name}" if client else ""
         self.say("note", f"Admits {count}{whose}, then: {end}.")
 
+    def server_prepares(self, _actor, event, number, _rest):
+        """An operation that it leads, and waits for votes."""
+        asker = self.client_of(event, "lead")[0]
+        whose = f" for {asker.name}" if asker and asker.name[0] == "c" else ""
+        self.say("note", f"Leads {number}{whose}, and asks other servers for their parts.")
+
+    def server_votes(self, _actor, _event, number, vote):
+        """What it says of a part."""
+        self.say("note", f"Votes on a part of {number}: {vote}.")
+
+    def server_waits(self, _actor, _event, number, _rest):
+        """Other votes are awaited, or other parts."""
+        self.say("note", f"Waits for more of {number}.")
+
+    def server_seeks(self, _actor, _event, number, to):
+        """A part is asked for elsewhere."""
+        self.say("note", f"Asks {to} for a part of {number}.")
+
+    def server_applies(self, _actor, _event, number, _rest):
+        """What was decided of a part is done."""
+        self.say("note", f"Does what is decided of its part of {number}.")
+
+    def server_ends(self, _actor, _event, number, _rest):
+        """All parts are done."""
+        self.say("note", f"Has all of {number} done.")
+
     def server_commits(self, _actor, event, number, reply):
         """An operation that it led is admitted."""
         asker = self.client_of(event, "lead")[0]
@@ -271,6 +297,46 @@ class Telling:
     def server_refuses(self, _actor, _event, why, what):
         """An operation that it does not lead."""
         self.say("note", f"Does not lead what it was asked to: {why} {what}.")
+
+    # Path leases. That it does not hold a path that is asked back is told as `none`, which a packet without a message is too.
+
+    def server_pathgrants(self, _actor, _event, number, _rest):
+        """A path that it gives."""
+        self.say("note", f"Gives the path {number}.")
+
+    def server_pathdenies(self, _actor, _event, why, what):
+        """A path that it does not give."""
+        self.say("note", f"Gives no path: {said(why, what)}.")
+
+    def server_pathholds(self, _actor, _event, number, _rest):
+        """A path that came."""
+        self.say("note", f"Holds the path {number} from now on.")
+
+    def server_pathdrops(self, _actor, _event, number, _rest):
+        """A path that came for a file that is elsewhere."""
+        self.say("note", f"Gives the path {number} back at once: the file is no longer there.")
+
+    def server_pathseeks(self, _actor, _event, file, to):
+        """What is asked for a path goes on."""
+        self.say("note", f"Sends on to {to} what is asked for the path of {file}.")
+
+    def server_pathfails(self, _actor, _event, why, what):
+        """A path that it does not get."""
+        self.say("note", f"Gets no path: {said(why, what)}.")
+
+    def server_pathfrees(self, _actor, _event, number, _rest):
+        """A path that goes back."""
+        self.say("note", f"Gives the path {number} back.")
+
+    def server_pathdown(self, _actor, _event, number, count):
+        """A path that goes back once those that rest on it are back."""
+        self.say("note", f"Asks back {count} that rest on the path {number}.")
+
+    def server_pathback(self, _actor, _event, number, _rest):
+        """A path that came back."""
+        self.say("note", f"Has the path {number} back.")
+
+    # Handles and files of a server.
 
     def server_reaps(self, _actor, _event, count, _rest):
         """Handles that were taken."""
@@ -299,6 +365,11 @@ class Telling:
 def notes_of(text):
     """What each message came to, where one packet brought several."""
     return [part.strip(" ") for part in MESSAGES.findall(text)]
+
+
+def said(why, what):
+    """A reason and what it names, where it names something."""
+    return f"{why} {what}".strip(" ")
 
 
 def needs_of(text):

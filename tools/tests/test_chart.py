@@ -106,6 +106,29 @@ class Pages(Folder):
             [["note", "Does not lead what it was asked to: wanted /."]],
             [["note", 'It may ask again, since the server did not carry it out: delete / "b" (wanted /).'], ["question", ""]]])
 
+    def test_a_page_shows_what_several_servers_do(self):
+        says = [
+            ("prepares s0#1", "Leads s0#1 for c1, and asks other servers for their parts."),
+            ("votes s0#1 ended s1.4 9 12", "Votes on a part of s0#1: ended s1.4 9 12."), ("waits s0#1", "Waits for more of s0#1."),
+            ("seeks s0#1 s2", "Asks s2 for a part of s0#1."), ("applies s0#1", "Does what is decided of its part of s0#1."),
+            ("ends s0#1", "Has all of s0#1 done."), ("aborts s0#1 ended s1.4 9 12", "Gives up s0#1: ended s1.4 9 12."),
+            ("pathgrants s0@1", "Gives the path s0@1."), ("pathdenies frozen /1 s0#1", "Gives no path: frozen /1 s0#1."),
+            ("pathdenies nochild", "Gives no path: nochild."), ("pathholds s0@1", "Holds the path s0@1 from now on."),
+            ("pathdrops s0@1", "Gives the path s0@1 back at once: the file is no longer there."),
+            ("pathseeks /1 s2", "Sends on to s2 what is asked for the path of /1."), ("pathfails moved /1 s2", "Gets no path: moved /1 s2."),
+            ("pathfrees s0@1", "Gives the path s0@1 back."), ("pathdown s0@1 2", "Asks back 2 that rest on the path s0@1."),
+            ("pathback s0@1", "Has the path s0@1 back.")]
+        lines = ["join c1"] + ['do c1 delete / "a"', "tell next"] * len(says)
+        schedule = self.file("a.schedule", "farsite 1 servers 3 skew 0 term 9\n" + "".join(f"0 {line}\n" for line in lines))
+        outcomes = ["c1 joined"]
+        for k, (note, _) in enumerate(says):
+            outcomes += [f"c1 leading {k + 1} s0 sends {k}", f"s0 {note}"]
+        report = "".join(f"e{k} {line}\n" for k, line in enumerate(outcomes, 1))
+        report += f"n / dir 0 0\ndone events {len(lines)} journal 0 nodes 1\n"
+        page, told, _ = chart(schedule, self.file("a.report", report))
+        self.assertEqual(told, "")
+        self.assertEqual([event[4] for event in data_in(page)["events"]][2::2], [[["note", text]] for _, text in says])
+
     def test_repeats_and_overtakings_are_told_apart(self):
         lines = ["join c1", "do c1 kind /", "turn c1", "tell 1", "tell 0", "tell 0"]
         schedule = self.file("a.schedule", "farsite 1 servers 1 skew 0 term 9\n" + "".join(f"0 {line}\n" for line in lines))

@@ -7,7 +7,7 @@ ghost use Rattle.fs_msg.specs.Prefixes.{IsMessage};
 
 use fs_ident::Memory;
 use fs_io::{read_all, standard_input};
-use fs_msg::{read_whole, write};
+use fs_msg::{Msg, read_whole, write};
 use std::alloc::Global;
 use std::env;
 use std::process::ExitCode;
@@ -57,13 +57,23 @@ fn round(alloc: Global, bytes: &[u8], out: &mut Vec<u8>) -> Result<bool, Memory>
     ensures { IfOk result (λ again. again ≡ true → IsMessage bytes.now) }
 {
     match read_whole(alloc, bytes) {
-        Ok(message) => {
-            out.clear();
-            write(alloc, &message, out)?;
-            Ok(out.as_slice() == bytes)
-        }
+        Ok(message) => is_written_as(alloc, &message, bytes, out),
         Err(_) => Ok(false),
     }
+}
+
+/// Whether the message is written as these bytes.
+fn is_written_as(
+    alloc: Global,
+    message: &Msg,
+    bytes: &[u8],
+    out: &mut Vec<u8>,
+) -> Result<bool, Memory>
+    ensures { IfOk result (λ again. again ≡ true → IsMessage bytes.now) }
+{
+    out.clear();
+    write(alloc, message, out)?;
+    Ok(out.as_slice() == bytes)
 }
 
 /// Prints the line, and ends with the status.

@@ -11,7 +11,7 @@ use Rattle.fs_msg.specs.Ranges.{FitsMessage, FitsRecord}
 use Rattle.fs_msg.specs.Spelling.{message}
 use Rattle.fs_msg.specs.declared.msg.Msg.{Msg}
 use Rattle.fs_msg.specs.declared.msg.Msg.TheVariants as msg
-use Rattle.fs_msg.specs.declared.peer_msg.PeerMsg.TheVariants.{Parcel, Prepare, Vote, Decide, Done}
+use Rattle.fs_msg.specs.declared.peer_msg.PeerMsg.TheVariants.{Parcel}
 use Rattle.fs_record.specs.declared.record.Record.{Record}
 use Rattle.fs_server.specs.Step.{AreNumbersLeft, CanBeTold}
 use Rattle.fs_wire.specs.Ranges.{FitsPair}
@@ -37,8 +37,5 @@ can_be_told (Client s) None fits = tt
 can_be_told (Server j) (Some (msg.Client m)) fits = tt
 can_be_told (Server j) (Some (msg.Answer a)) fits = tt
 can_be_told (Server j) (Some (msg.Peer (Parcel p))) fits = numbers_left p.records fits.records.1
-can_be_told (Server j) (Some (msg.Peer (Prepare m))) fits = tt
-can_be_told (Server j) (Some (msg.Peer (Vote m))) fits = tt
-can_be_told (Server j) (Some (msg.Peer (Decide m))) fits = tt
-can_be_told (Server j) (Some (msg.Peer (Done m))) fits = tt
+can_be_told (Server j) (Some (msg.Peer m)) fits = tt
 can_be_told (Server j) None fits = tt

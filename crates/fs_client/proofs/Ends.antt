@@ -13,7 +13,7 @@ use Rattle.fs_record.specs.declared.led_end.LedEnd.{LedEnd}
 use Rattle.fs_record.specs.declared.led_end.LedEnd.TheVariants as led
 use Rattle.fs_view.specs.declared.view_lease.ViewLease.{ViewLease}
 use Rattle.fs_client.specs.Acts.{act_on, act_plan, unless_led}
-use Rattle.fs_client.specs.Answers.{answer_plan, ended_plan, fits, hear, led_plan, strange, told}
+use Rattle.fs_client.specs.Answers.{answer_plan, ended_plan, fits, hear, led_plan, strange, fitting_plan}
 use Rattle.fs_client.specs.Client.{begun, changed, committed, with_hints}
 use Rattle.fs_client.specs.Laws.{led_told, next_told}
 use Rattle.fs_client.specs.Turns.{ending, idle, release_some, renew_some, returned, ship_some, turn_free, turn_on, turn_plan}
@@ -130,7 +130,7 @@ led_tells : (o : Option Led) (e : LedEnd) (c : Client) → Tells (led_plan o e c
 led_tells None e c = ((λ led. refl), (λ n. refl))
 led_tells (Some l) e c = ended_tells l e c
 
-told_tells : (a : Answer) (c : Client) → Tells (told a c)
+told_tells : (a : Answer) (c : Client) → Tells (fitting_plan a c)
 told_tells (Granted grants fresh e) c = ((λ led. refl), (λ n. refl))
 told_tells (Renewed rows e) c = ((λ led. refl), (λ n. refl))
 told_tells (Released count e) c = ((λ led. refl), (λ n. refl))
@@ -139,7 +139,7 @@ told_tells (answer.Led e) c = led_tells c.led e c
 told_tells (Recall number) c = ((λ led. refl), (λ n. refl))
 
 heard_tells : (from : ℕ) (a : Answer) (c : Client) → Tells (hear from a c)
-heard_tells from a c = elim (fits from c.exchange a c) as (λ b. Tells (cond b (told a c) (strange c))) [ true ↦ told_tells a c | false ↦ ((λ led. refl), (λ n. refl)) ]
+heard_tells from a c = elim (fits from c.exchange a c) as (λ b. Tells (cond b (fitting_plan a c) (strange c))) [ true ↦ told_tells a c | false ↦ ((λ led. refl), (λ n. refl)) ]
 
 pub answers_end : (c : Client) (now from : ℕ) (a : Answer) → ((committed (answer_plan c now from a).ready c).led ≡ led_told (answer_plan c now from a).out.note c.led) × ((committed (answer_plan c now from a).ready c).next ≡ next_told (answer_plan c now from a).out.note c.next)
 answers_end c now from a =

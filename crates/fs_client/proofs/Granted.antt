@@ -28,7 +28,7 @@ use Rattle.fs_client.specs.declared.exchange.Exchange.{Exchange}
 use Rattle.fs_client.specs.declared.exchange.Exchange.TheVariants.{Asks, Renews, Releases, Ships, Leads}
 use Rattle.fs_client.specs.declared.led.Led.{Led}
 use Rattle.fs_client.specs.declared.state.Client.{Client}
-use Rattle.fs_client.specs.Answers.{ended_plan, fits, front_fits, grants_fit, is_new, is_of_item, lease_in, leases_in, led_plan, life_last, told}
+use Rattle.fs_client.specs.Answers.{ended_plan, fits, front_fits, grants_fit, is_new, is_of_item, lease_in, leases_in, led_plan, life_last, fitting_plan}
 use Rattle.fs_client.specs.Client.{IsClient, can_change, has_number_left}
 
 pub leases_step : (fresh : Option (List ℕ)) (gs : List Grant) (i : ℕ) (d : Grant) → i < length gs → leases_in fresh (take (i + 1) gs) ≡ leases_in fresh (take i gs) ++ lease_in fresh (get_or gs i d) ∷ []
@@ -107,7 +107,7 @@ led_can : (o : Option Led) (e : LedEnd) (c : Client) → (is_some o ≡ true →
 led_can None e c h = refl
 led_can (Some l) e c h = ended_can l e c (h refl)
 
-pub fits_can : (from : ℕ) (x : Option Exchange) (a : Answer) (c : Client) → IsClient c → fits from x a c ≡ true → can_change (told a c).ready.change c ≡ true
+pub fits_can : (from : ℕ) (x : Option Exchange) (a : Answer) (c : Client) → IsClient c → fits from x a c ≡ true → can_change (fitting_plan a c).ready.change c ≡ true
 fits_can from x (Recall number) c i h = refl
 fits_can from x (Renewed rows e) c i h = refl
 fits_can from x (Released count e) c i h = refl

@@ -34,7 +34,7 @@ use Rattle.fs_client.specs.declared.plan.Plan.{Plan}
 use Rattle.fs_client.specs.declared.plan.Ready.{Ready}
 use Rattle.fs_client.specs.declared.state.Client.{Client}
 use Rattle.fs_client.specs.Acts.{act_on, act_plan, answer_with, answers_move, answers_plain, ask_for, asks, full_one, hinted, is_act_spent, leads_on, leads_or_waits, need_file, reads, reads_or_waits, replies, stays, unless_led, worth}
-use Rattle.fs_client.specs.Answers.{answer_plan, ended_plan, fits, hear, led_plan, strange, told}
+use Rattle.fs_client.specs.Answers.{answer_plan, ended_plan, fits, hear, led_plan, strange, fitting_plan}
 use Rattle.fs_client.specs.Client.{IsClient, begun, can_change, can_commit}
 use Rattle.fs_client.specs.Led.{is_led, moved_known}
 use Rattle.fs_client.specs.Turns.{ending, idle, release_some, renew_some, returned, ship_some, turn_free, turn_on, turn_plan}
@@ -162,7 +162,7 @@ led_now : (o : Option Led) (e : LedEnd) (c : Client) → (led_plan o e c).ready.
 led_now None e c = refl
 led_now (Some l) e c = ended_now l e c
 
-told_now : (a : Answer) (c : Client) → (told a c).ready.now ≡ c.last
+told_now : (a : Answer) (c : Client) → (fitting_plan a c).ready.now ≡ c.last
 told_now (Granted gs fresh e) c = refl
 told_now (Renewed rows e) c = refl
 told_now (Released count e) c = refl
@@ -171,7 +171,7 @@ told_now (answer.Led e) c = led_now c.led e c
 told_now (Recall number) c = refl
 
 hear_now : (from : ℕ) (a : Answer) (c : Client) → (hear from a c).ready.now ≡ c.last
-hear_now from a c = either_now (fits from c.exchange a c) (told a c) (strange c) c.last (told_now a c) refl
+hear_now from a c = either_now (fits from c.exchange a c) (fitting_plan a c) (strange c) c.last (told_now a c) refl
 
 pub answer_is : (now from : ℕ) (a : Answer) (c x : Client) (r : Result (Plan ClientNote) Memory) → x ≡ begun now c → IfOk r (λ p. p ≡ hear from a x) → IfOk r (λ p. p ≡ answer_plan c now from a)
 answer_is now from a c x (Ok p) e h = h ∙ ap (hear from a) e

@@ -24,7 +24,7 @@ use Rattle.fs_view.specs.declared.view_lease.ViewLease.{ViewLease}
 use Rattle.fs_view.specs.View.{given_by, known_by, missing_in, reply_in}
 use Rattle.fs_view.proofs.Walks.{replied}
 use Rattle.fs_client.specs.Acts.{act_on, act_plan, answer_with, answers, answers_move, answers_plain, ask_for, asks, full_one, hinted, leads_on, leads_or_waits, need_file, reads, reads_or_waits, replies, stays, unless_led, worth}
-use Rattle.fs_client.specs.Answers.{answer_plan, ended_plan, fits, hear, led_plan, strange, told}
+use Rattle.fs_client.specs.Answers.{answer_plan, ended_plan, fits, hear, led_plan, strange, fitting_plan}
 use Rattle.fs_client.specs.Client.{begun, changed, committed, with_hints}
 use Rattle.fs_client.specs.Laws.{IsAnswered, over_told}
 use Rattle.fs_client.specs.Led.{is_led, moved_known}
@@ -185,7 +185,7 @@ led_over : (o : Option Led) (e : LedEnd) (c : Client) → over_in (led_plan o e 
 led_over None e c = refl
 led_over (Some l) e c = ended_over l e c
 
-told_over : (a : Answer) (c : Client) → over_in (told a c).ready.change c.over ≡ over_told (told a c).out.note c.over
+told_over : (a : Answer) (c : Client) → over_in (fitting_plan a c).ready.change c.over ≡ over_told (fitting_plan a c).out.note c.over
 told_over (Granted grants fresh e) c = refl
 told_over (Renewed rows e) c = refl
 told_over (Released count e) c = refl
@@ -194,7 +194,7 @@ told_over (answer.Led e) c = led_over c.led e c
 told_over (Recall number) c = refl
 
 heard_over : (from : ℕ) (a : Answer) (c : Client) → over_in (hear from a c).ready.change c.over ≡ over_told (hear from a c).out.note c.over
-heard_over from a c = elim (fits from c.exchange a c) as (λ b. over_in (cond b (told a c) (strange c)).ready.change c.over ≡ over_told (cond b (told a c) (strange c)).out.note c.over) [ true ↦ told_over a c | false ↦ refl ]
+heard_over from a c = elim (fits from c.exchange a c) as (λ b. over_in (cond b (fitting_plan a c) (strange c)).ready.change c.over ≡ over_told (cond b (fitting_plan a c) (strange c)).out.note c.over) [ true ↦ told_over a c | false ↦ refl ]
 
 pub answers_tell : (c : Client) (now from : ℕ) (a : Answer) → (committed (answer_plan c now from a).ready c).over ≡ over_told (answer_plan c now from a).out.note c.over
 answers_tell c now from a = committed_over (answer_plan c now from a).ready c ∙ heard_over from a (begun now c)

@@ -174,16 +174,16 @@ led_plan None e c = strange c
 led_plan (Some l) e c = ended_plan l e c
 
 -- an answer that fits; all but a recall end the exchange
-abbrev pub told : Answer → Client → Plan ClientNote
-told (Granted gs fresh e) c = granted_plan gs fresh e c
-told (Renewed rows e) c = renewed_plan rows e c
-told (Released count e) c = released_plan count e c
-told (Shipped count e) c = shipped_plan count e c
-told (answer.Led e) c = led_plan c.led e c
-told (Recall number) c = only_noted (change.Recall number) (note.Recall number) c
+abbrev pub fitting_plan : Answer → Client → Plan ClientNote
+fitting_plan (Granted gs fresh e) c = granted_plan gs fresh e c
+fitting_plan (Renewed rows e) c = renewed_plan rows e c
+fitting_plan (Released count e) c = released_plan count e c
+fitting_plan (Shipped count e) c = shipped_plan count e c
+fitting_plan (answer.Led e) c = led_plan c.led e c
+fitting_plan (Recall number) c = only_noted (change.Recall number) (note.Recall number) c
 
 abbrev pub hear : ℕ → Answer → Client → Plan ClientNote
-hear from a c = if fits from c.exchange a c then told a c else strange c
+hear from a c = if fits from c.exchange a c then fitting_plan a c else strange c
 
 abbrev pub answer_plan : Client → ℕ → ℕ → Answer → Plan ClientNote
 answer_plan c now from a = hear from a (begun now c)

@@ -1,7 +1,7 @@
 //! What a client makes of an answer of a server.
 ghost use Rattle.std.specs.Prelude.{◌≡◌, ◌≤◌, true, length, map, take, IfOk};
 ghost use Rattle.fs_ident.specs.declared.limits.TheConstants.{LATEST};
-ghost use Rattle.fs_client.specs.Answers.{answer_plan, below_field, fits, full_told, granted_plan, hear, hints_told, lease_in, leases_in, noted_with, numbers_sent, over_after, released_plan, renewed_plan, shipped_plan, strange, told};
+ghost use Rattle.fs_client.specs.Answers.{answer_plan, below_field, fits, full_told, granted_plan, hear, hints_told, lease_in, leases_in, noted_with, numbers_sent, over_after, released_plan, renewed_plan, shipped_plan, strange, fitting_plan};
 ghost use Rattle.fs_client.specs.Client.{IsClient, can_change, can_commit};
 
 use crate::acts::only_noted;
@@ -48,7 +48,7 @@ fn answer(
     ensures can { IfOk result (λ p. can_change p.ready.change at.now ≡ true) }
 {
     if fits(at, from, a) {
-        return told(alloc, at, a);
+        return fitting_plan(alloc, at, a);
     }
     Ok(strange(at))
 }
@@ -61,8 +61,8 @@ pub(crate) fn strange(at: &AtReading<'_>) -> Plan<ClientNote>
 }
 
 /// It fits the question that stands, or is a recall.
-fn told(alloc: Global, at: &AtReading<'_>, a: &Answer) -> Result<Plan<ClientNote>, Memory>
-    ensures { IfOk result (λ p. p ≡ told a.now at.now) }
+fn fitting_plan(alloc: Global, at: &AtReading<'_>, a: &Answer) -> Result<Plan<ClientNote>, Memory>
+    ensures { IfOk result (λ p. p ≡ fitting_plan a.now at.now) }
 {
     match a {
         Answer::Granted { grants, fresh, end } => {

@@ -35,8 +35,8 @@ pub(crate) fn longest<'a, V>(listed: &'a [(FileId, V)], id: &[u32]) -> Option<&'
     }
 }
 
-/// What is told of the identifier of these numbers.
-pub(crate) fn told<V: Copy>(listed: &[(FileId, V)], id: &[u32]) -> Option<V>
+/// The value of the longest prefix listed that the identifier of these numbers has.
+pub(crate) fn value_in<V: Copy>(listed: &[(FileId, V)], id: &[u32]) -> Option<V>
     requires { IsTrue (are_keys_in_order listed.now) }
     ensures { result ≡ told_of listed.now id.now }
 {
@@ -51,7 +51,7 @@ pub(crate) fn server_of(owners: &[(FileId, u8)], id: &[u32]) -> u8
     requires { IsTrue (are_keys_in_order owners.now) }
     ensures { result ≡ server_of owners.now id.now }
 {
-    match told(owners, id) {
+    match value_in(owners, id) {
         None => 0,
         Some(server) => server,
     }
@@ -62,5 +62,5 @@ pub(crate) fn is_given(prefix: &[u32], given: &[(FileId, bool)], id: &[u32]) -> 
     requires { IsTrue (are_keys_in_order given.now) }
     ensures { result ≡ gives prefix.now given.now id.now }
 {
-    id.starts_with(prefix) && told(given, id).unwrap_or(false)
+    id.starts_with(prefix) && value_in(given, id).unwrap_or(false)
 }

@@ -7,7 +7,7 @@ ghost use Rattle.fs_map.specs.Change.{before_all};
 ghost use Rattle.fs_map.specs.Map.{IsPiece, gives, told_of};
 ghost use Rattle.fs_map.specs.Lists.{begins_at, is_piece, tells_alike, tells_anew};
 
-use crate::listed::{is_given, told};
+use crate::listed::{is_given, value_in};
 use fs_ident::{FileId, List, Memory, Twin};
 use std::alloc::Global;
 use std::cmp::Ordering;
@@ -56,13 +56,13 @@ impl MapPiece {
 fn last_told(given: &[(FileId, bool)], id: &FileId) -> Option<bool>
     ensures { result ≡ told_of given.now id.now }
 {
-    let mut told = None;
+    let mut last = None;
     for (prefix, value) in given {
         if id.begins(prefix) {
-            told = Some(*value);
+            last = Some(*value);
         }
     }
-    told
+    last
 }
 
 /// Whether the places rise.
@@ -106,7 +106,7 @@ fn tells_alike(given: &[(FileId, bool)], place: &FileId, value: bool) -> bool
 {
     match place.numbers().split_last() {
         None => false,
-        Some((_, above)) => match told(given, above) {
+        Some((_, above)) => match value_in(given, above) {
             None => false,
             Some(other) => other == value,
         },

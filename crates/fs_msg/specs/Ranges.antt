@@ -120,6 +120,11 @@ FitsPeerMessage (peer_.Vote m) = FitsVoted m
 FitsPeerMessage (peer_.Decide m) = FitsDecide m
 FitsPeerMessage (peer_.Done m) = FitsDone m
 FitsPeerMessage (peer_.Parcel p) = FitsParcel p
+FitsPeerMessage (peer_.PathAsk file parent) = IsId file × IsId parent
+FitsPeerMessage (peer_.PathGrant given file path) = FitsPathLease given × IsId file × FitsList IsId path
+FitsPeerMessage (peer_.PathNo file w) = IsId file × FitsWhy w
+FitsPeerMessage (peer_.PathRecall given) = FitsPathLease given
+FitsPeerMessage (peer_.PathRelease given) = FitsPathLease given
 
 abbrev pub FitsMessage : Msg → Type 0
 FitsMessage (msg_.Client m) = FitsClientMessage m

@@ -60,10 +60,9 @@ is_readable_parcel p = list_all (λ e. is_readable_record e.1) p.records && list
 -- what it carries is readable
 abbrev pub is_readable_peer_message : PeerMsg → Bool
 is_readable_peer_message (peer_.Prepare m) = is_readable_prepare m
-is_readable_peer_message (peer_.Vote m) = true
 is_readable_peer_message (peer_.Decide m) = is_readable_decide m
-is_readable_peer_message (peer_.Done m) = true
 is_readable_peer_message (peer_.Parcel p) = is_readable_parcel p
+is_readable_peer_message m = true
 
 abbrev pub is_readable : Msg → Bool
 is_readable (msg_.Client m) = is_readable_request m

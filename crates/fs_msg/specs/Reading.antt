@@ -104,7 +104,7 @@ abbrev pub is_answer_tag : ℕ → Bool
 is_answer_tag b = nat_le 17 b && nat_le b 22
 
 abbrev pub is_peer_tag : ℕ → Bool
-is_peer_tag b = nat_le 33 b && nat_le b 37
+is_peer_tag b = nat_le 33 b && nat_le b 42
 
 abbrev pub is_message_tag : ℕ → Bool
 is_message_tag b = is_client_tag b || (is_answer_tag b || is_peer_tag b)
@@ -137,7 +137,13 @@ peer_of tag =
     either_at (tag == 34) (map_at (λ x. peer_.Vote x) voted_at) (
     either_at (tag == 35) (map_at (λ x. peer_.Decide x) decide_at) (
     either_at (tag == 36) (map_at (λ x. peer_.Done x) done_at) (
-    map_at (λ x. peer_.Parcel x) parcel_at))))
+    either_at (tag == 37) (map_at (λ x. peer_.Parcel x) parcel_at) (
+    either_at (tag == 38) (map_at (λ x. peer_.PathAsk x.0 x.1) (pair_at identifier_at identifier_at)) (
+    either_at (tag == 39)
+    (map_at (λ x. peer_.PathGrant x.0 x.1.0 x.1.1) (pair_at path_lease_at (pair_at identifier_at (list_at identifier_at)))) (
+    either_at (tag == 40) (map_at (λ x. peer_.PathNo x.0 x.1) (pair_at identifier_at why_at)) (
+    either_at (tag == 41) (map_at (λ x. peer_.PathRecall x) path_lease_at) (
+    map_at (λ x. peer_.PathRelease x) path_lease_at)))))))))
 
 -- what stands behind a tag
 abbrev pub message_of : ℕ → Reader Msg

@@ -102,6 +102,11 @@ peer_message (peer_.Vote m) = 34 ∷ voted m
 peer_message (peer_.Decide m) = 35 ∷ decide m
 peer_message (peer_.Done m) = 36 ∷ done m
 peer_message (peer_.Parcel p) = 37 ∷ parcel p
+peer_message (peer_.PathAsk file parent) = 38 ∷ identifier file ++ identifier parent
+peer_message (peer_.PathGrant given file path) = 39 ∷ path_lease given ++ (identifier file ++ list identifier path)
+peer_message (peer_.PathNo file w) = 40 ∷ identifier file ++ why w
+peer_message (peer_.PathRecall given) = 41 ∷ path_lease given
+peer_message (peer_.PathRelease given) = 42 ∷ path_lease given
 
 unfoldable pub message : Msg → List ℕ
 message (msg_.Client m) = client_message m

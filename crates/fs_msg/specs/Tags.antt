@@ -19,7 +19,8 @@ use Rattle.fs_msg.specs.declared.peer_msg.PeerMsg.{PeerMsg}
 use Rattle.fs_msg.specs.declared.peer_msg.PeerMsg.TheVariants as peer_
 use Rattle.fs_msg.specs.declared.msg.Msg.{Msg}
 use Rattle.fs_msg.specs.declared.msg.Msg.TheVariants as msg_
-use Rattle.fs_wire.specs.Spelling.{eight, option, list, identifier, session, lease, transaction, kind, lease_kind, pair, field, value, op, reply, effect, vote}
+use Rattle.fs_wire.specs.Spelling.{eight, option, list, identifier, session, lease, transaction, path_lease}
+use Rattle.fs_wire.specs.Spelling.{kind, lease_kind, pair, field, value, op, reply, effect, vote}
 use Rattle.fs_wire.specs.Tags.{plain, one_tag, list_tags, lease_use_tags, row_tags, part_tags}
 use Rattle.fs_msg.specs.Spelling.{done, end, why, file_record, piece}
 
@@ -79,6 +80,11 @@ peer_tags (peer_.Vote m) = true ∷ voted_tags m
 peer_tags (peer_.Decide m) = true ∷ decide_tags m
 peer_tags (peer_.Done m) = true ∷ plain (done m)
 peer_tags (peer_.Parcel p) = true ∷ parcel_tags p
+peer_tags (peer_.PathAsk file parent) = true ∷ plain (identifier file ++ identifier parent)
+peer_tags (peer_.PathGrant given file path) = true ∷ plain (path_lease given ++ (identifier file ++ list identifier path))
+peer_tags (peer_.PathNo file w) = true ∷ plain (identifier file) ++ one_tag (why w)
+peer_tags (peer_.PathRecall given) = true ∷ plain (path_lease given)
+peer_tags (peer_.PathRelease given) = true ∷ plain (path_lease given)
 
 unfoldable pub tags_of : Msg → List Bool
 tags_of (msg_.Client m) = client_tags m

@@ -3,23 +3,57 @@ use crate::decide::Decide;
 use crate::done::Done;
 use crate::prepare::Prepare;
 use crate::voted::Voted;
-use fs_ident::{Memory, Twin};
-use fs_record::Parcel;
+use fs_ident::{FileId, List, Memory, PathNo, Twin, copy_two};
+use fs_record::{Parcel, Why};
 use std::alloc::Global;
 
 /// What one server sends to another.
 #[derive(Debug, Drop)]
 pub enum PeerMsg {
     /// Asks whether a part of a led operation is ready.
-    Prepare { prepare: Prepare },
+    Prepare {
+        prepare: Prepare,
+    },
     /// Whether the part is ready.
-    Vote { voted: Voted },
+    Vote {
+        voted: Voted,
+    },
     /// What the part does in the end.
-    Decide { decide: Decide },
+    Decide {
+        decide: Decide,
+    },
     /// The part did it.
-    Done { done: Done },
+    Done {
+        done: Done,
+    },
     /// Hands over what was managed below a prefix.
-    Parcel { parcel: Parcel },
+    Parcel {
+        parcel: Parcel,
+    },
+    /// Asks for the path of a file, of the server of its parent.
+    PathAsk {
+        file: FileId,
+        parent: FileId,
+    },
+    /// Gives the path of a file, from the root down to it.
+    PathGrant {
+        no: PathNo,
+        file: FileId,
+        path: List<FileId>,
+    },
+    /// Why the path of a file is not given.
+    PathNo {
+        file: FileId,
+        why: Why,
+    },
+    /// Asks a path back.
+    PathRecall {
+        no: PathNo,
+    },
+    /// Gives a path back.
+    PathRelease {
+        no: PathNo,
+    },
 }
 
 impl Twin for PeerMsg {
@@ -40,6 +74,24 @@ impl Twin for PeerMsg {
             PeerMsg::Parcel { parcel } => Ok(PeerMsg::Parcel {
                 parcel: parcel.copy(alloc)?,
             }),
+            PeerMsg::PathAsk { file, parent } => {
+                let (file, parent) = copy_two(alloc, file, parent)?;
+                Ok(PeerMsg::PathAsk { file, parent })
+            }
+            PeerMsg::PathGrant { no, file, path } => {
+                let (file, path) = copy_two(alloc, file, path)?;
+                Ok(PeerMsg::PathGrant {
+                    no: *no,
+                    file,
+                    path,
+                })
+            }
+            PeerMsg::PathNo { file, why } => {
+                let (file, why) = copy_two(alloc, file, why)?;
+                Ok(PeerMsg::PathNo { file, why })
+            }
+            PeerMsg::PathRecall { no } => Ok(PeerMsg::PathRecall { no: *no }),
+            PeerMsg::PathRelease { no } => Ok(PeerMsg::PathRelease { no: *no }),
         }
     }
 

@@ -2,7 +2,7 @@
 use crate::end::End;
 use crate::refusal::Refusal;
 use fs_field::Vote;
-use fs_ident::{FileId, LeaseNo, List, Memory, Twin, TxnNo, copy_two};
+use fs_ident::{FileId, LeaseNo, List, Memory, PathNo, Twin, TxnNo, copy_two};
 use fs_model::Reply;
 use fs_record::Why;
 use std::alloc::Global;
@@ -78,6 +78,46 @@ pub enum ServerNote {
     Ends {
         txn: TxnNo,
     },
+    /// It gave out a path.
+    PathGrants {
+        no: PathNo,
+    },
+    /// It gave out no path that was asked for.
+    PathDenies {
+        why: Why,
+    },
+    /// It keeps a path that came.
+    PathHolds {
+        no: PathNo,
+    },
+    /// It gives a path back as soon as it came, since the file is no longer there.
+    PathDrops {
+        no: PathNo,
+    },
+    /// What is asked for the path of the file was sent on to that server.
+    PathSeeks {
+        file: FileId,
+        to: u8,
+    },
+    /// It asked for a path in vain.
+    PathFails {
+        why: Why,
+    },
+    /// It gives back a path that was asked back.
+    PathFrees {
+        no: PathNo,
+    },
+    /// It was asked for a path back, and first asks back so many that rest on it.
+    PathDown {
+        no: PathNo,
+        count: u64,
+    },
+    /// A path that it gave out came back.
+    PathBack {
+        no: PathNo,
+    },
+    /// It was asked for a path back that it does not hold.
+    PathNone,
     /// So many times a session lost its handles on a file.
     Reaps {
         count: u64,
@@ -159,6 +199,26 @@ impl Twin for ServerNote {
             ServerNote::Seeks { txn, to } => Ok(ServerNote::Seeks { txn: *txn, to: *to }),
             ServerNote::Applies { txn } => Ok(ServerNote::Applies { txn: *txn }),
             ServerNote::Ends { txn } => Ok(ServerNote::Ends { txn: *txn }),
+            ServerNote::PathGrants { no } => Ok(ServerNote::PathGrants { no: *no }),
+            ServerNote::PathDenies { why } => Ok(ServerNote::PathDenies {
+                why: why.copy(alloc)?,
+            }),
+            ServerNote::PathHolds { no } => Ok(ServerNote::PathHolds { no: *no }),
+            ServerNote::PathDrops { no } => Ok(ServerNote::PathDrops { no: *no }),
+            ServerNote::PathSeeks { file, to } => Ok(ServerNote::PathSeeks {
+                file: file.copy(alloc)?,
+                to: *to,
+            }),
+            ServerNote::PathFails { why } => Ok(ServerNote::PathFails {
+                why: why.copy(alloc)?,
+            }),
+            ServerNote::PathFrees { no } => Ok(ServerNote::PathFrees { no: *no }),
+            ServerNote::PathDown { no, count } => Ok(ServerNote::PathDown {
+                no: *no,
+                count: *count,
+            }),
+            ServerNote::PathBack { no } => Ok(ServerNote::PathBack { no: *no }),
+            ServerNote::PathNone => Ok(ServerNote::PathNone),
             ServerNote::Reaps { count } => Ok(ServerNote::Reaps { count: *count }),
             ServerNote::Recalls { count } => Ok(ServerNote::Recalls { count: *count }),
             ServerNote::Installs { prefix } => Ok(ServerNote::Installs {

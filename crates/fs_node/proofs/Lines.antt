@@ -16,7 +16,7 @@ use Rattle.fs_msg.specs.declared.note.Note.TheVariants as note
 use Rattle.fs_record.specs.declared.led_end.LedEnd.{LedEnd}
 use Rattle.fs_record.specs.declared.led_end.LedEnd.TheVariants as led
 use Rattle.fs_server.specs.Ships.{item_of}
-use Rattle.fs_client.specs.Answers.{answer_plan, fits, hints_told, led_plan, strange, told}
+use Rattle.fs_client.specs.Answers.{answer_plan, fits, hints_told, led_plan, strange, fitting_plan}
 use Rattle.fs_client.specs.Client.{admitted_all, begun, committed, with_hints}
 use Rattle.fs_client.specs.Led.{hints_again}
 use Rattle.fs_client.specs.declared.led.Led.{Led}
@@ -71,15 +71,15 @@ counts_led s c now (led.Again why) (Some l) h =
     stays s c (client_noted (led_plan (Some l) (led.Again why) (begun now c))) (hints_keep (hints_again why c.hints) _) refl refl
 
 -- an answer that fits
-counts_told : (s : Session) (c : Client) (now : ℕ) (a : Answer) → Counts s c (client_noted (told a (begun now c)))
+counts_told : (s : Session) (c : Client) (now : ℕ) (a : Answer) → Counts s c (client_noted (fitting_plan a (begun now c)))
 counts_told s c now (answer.Granted gs fresh e) =
-    stays s c (client_noted (told (answer.Granted gs fresh e) (begun now c))) (hints_keep (hints_told e c.hints) _) refl refl
+    stays s c (client_noted (fitting_plan (answer.Granted gs fresh e) (begun now c))) (hints_keep (hints_told e c.hints) _) refl refl
 counts_told s c now (answer.Renewed rows e) =
-    stays s c (client_noted (told (answer.Renewed rows e) (begun now c))) (hints_keep (hints_told e c.hints) _) refl refl
+    stays s c (client_noted (fitting_plan (answer.Renewed rows e) (begun now c))) (hints_keep (hints_told e c.hints) _) refl refl
 counts_told s c now (answer.Released count e) =
-    stays s c (client_noted (told (answer.Released count e) (begun now c))) (hints_keep (hints_told e c.hints) _) refl refl
+    stays s c (client_noted (fitting_plan (answer.Released count e) (begun now c))) (hints_keep (hints_told e c.hints) _) refl refl
 counts_told s c now (answer.Shipped count e) =
-    let p = client_noted (told (answer.Shipped count e) (begun now c)) in
+    let p = client_noted (fitting_plan (answer.Shipped count e) (begun now c)) in
     let log : (committed p.ready c).log ≡ drop count c.log = hints_keep (hints_told e c.hints) _ ∙ shipped_leave count _ in
     let all : length (finished s c p.out.admitted p.out.note) ≡ length (map (item_of s) (take count c.log)) + 0 = length-append (map (item_of s) (take count c.log)) [] in
     let items = length-map (take count c.log) (item_of s) in
@@ -87,12 +87,12 @@ counts_told s c now (answer.Shipped count e) =
     let left = length-drop count c.log in
     record { fewer = omega (arith, ap length log, left); whole = omega (arith, ap length log, all, items, some, left) }
 counts_told s c now (answer.Led e) = counts_led s c now e c.led refl
-counts_told s c now (answer.Recall number) = stays s c (client_noted (told (answer.Recall number) (begun now c))) refl refl refl
+counts_told s c now (answer.Recall number) = stays s c (client_noted (fitting_plan (answer.Recall number) (begun now c))) refl refl refl
 
 counts_answer : (s : Session) (c : Client) (now from : ℕ) (a : Answer) → Counts s c (client_noted (answer_plan c now from a))
 counts_answer s c now from a = go (fits from c.exchange a (begun now c))
   where
-    go : (b : Bool) → Counts s c (client_noted (cond b (told a (begun now c)) (strange (begun now c))))
+    go : (b : Bool) → Counts s c (client_noted (cond b (fitting_plan a (begun now c)) (strange (begun now c))))
     go true = counts_told s c now a
     go false = counts_strange s c now
 

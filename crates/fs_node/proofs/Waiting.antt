@@ -40,7 +40,7 @@ use Rattle.fs_record.specs.declared.led_end.LedEnd.TheVariants as led
 use Rattle.fs_view.specs.View.{known_by, missing_in, reply_in}
 use Rattle.fs_view.specs.declared.view_lease.ViewLease.{ViewLease}
 use Rattle.fs_client.specs.Acts.{act_on, act_plan, answer_with, answers, ask_for, asks, full_one, hinted, leads_on, need_file, reads, replies, stays, unless_led, worth}
-use Rattle.fs_client.specs.Answers.{answer_plan, fits, hints_told, led_plan, strange, told}
+use Rattle.fs_client.specs.Answers.{answer_plan, fits, hints_told, led_plan, strange, fitting_plan}
 use Rattle.fs_client.specs.Client.{admitted_all, begun, committed, with_hints}
 use Rattle.fs_client.specs.Led.{hints_again, is_led, moved_known}
 use Rattle.fs_client.specs.Turns.{ending, idle, release_some, renew_some, returned, ship_some, turn_plan}
@@ -166,18 +166,18 @@ leaves_led c now (led.Done r) (Some l) h = let one : lines_led c.led ≡ 1 = ap 
 leaves_led c now (led.Ended lease until at) (Some l) h = omega arith
 leaves_led c now (led.Again why) (Some l) h = let none : lines_led (committed (led_plan (Some l) (led.Again why) (begun now c)).ready c).led ≡ 0 = leaves_hinted (hints_again why c.hints) _ in omega (arith, none)
 
-leaves_told : (c : Client) (now : ℕ) (a : Answer) → Leaves c (told a (begun now c))
-leaves_told c now (answer.Granted gs fresh e) = let kept : lines_led (committed (told (answer.Granted gs fresh e) (begun now c)).ready c).led ≡ lines_led c.led = leaves_hinted (hints_told e c.hints) _ in omega (arith, kept)
-leaves_told c now (answer.Renewed rows e) = let kept : lines_led (committed (told (answer.Renewed rows e) (begun now c)).ready c).led ≡ lines_led c.led = leaves_hinted (hints_told e c.hints) _ in omega (arith, kept)
-leaves_told c now (answer.Released count e) = let kept : lines_led (committed (told (answer.Released count e) (begun now c)).ready c).led ≡ lines_led c.led = leaves_hinted (hints_told e c.hints) _ in omega (arith, kept)
-leaves_told c now (answer.Shipped count e) = let kept : lines_led (committed (told (answer.Shipped count e) (begun now c)).ready c).led ≡ lines_led c.led = leaves_hinted (hints_told e c.hints) _ ∙ leaves_shipped count _ in omega (arith, kept)
+leaves_told : (c : Client) (now : ℕ) (a : Answer) → Leaves c (fitting_plan a (begun now c))
+leaves_told c now (answer.Granted gs fresh e) = let kept : lines_led (committed (fitting_plan (answer.Granted gs fresh e) (begun now c)).ready c).led ≡ lines_led c.led = leaves_hinted (hints_told e c.hints) _ in omega (arith, kept)
+leaves_told c now (answer.Renewed rows e) = let kept : lines_led (committed (fitting_plan (answer.Renewed rows e) (begun now c)).ready c).led ≡ lines_led c.led = leaves_hinted (hints_told e c.hints) _ in omega (arith, kept)
+leaves_told c now (answer.Released count e) = let kept : lines_led (committed (fitting_plan (answer.Released count e) (begun now c)).ready c).led ≡ lines_led c.led = leaves_hinted (hints_told e c.hints) _ in omega (arith, kept)
+leaves_told c now (answer.Shipped count e) = let kept : lines_led (committed (fitting_plan (answer.Shipped count e) (begun now c)).ready c).led ≡ lines_led c.led = leaves_hinted (hints_told e c.hints) _ ∙ leaves_shipped count _ in omega (arith, kept)
 leaves_told c now (answer.Led e) = leaves_led c now e c.led refl
 leaves_told c now (answer.Recall number) = omega arith
 
 leaves_answer : (c : Client) (now from : ℕ) (a : Answer) → Leaves c (answer_plan c now from a)
 leaves_answer c now from a = go (fits from c.exchange a (begun now c))
   where
-    go : (b : Bool) → Leaves c (cond b (told a (begun now c)) (strange (begun now c)))
+    go : (b : Bool) → Leaves c (cond b (fitting_plan a (begun now c)) (strange (begun now c)))
     go true = leaves_told c now a
     go false = omega arith
 

@@ -1,5 +1,5 @@
 mod Steps
 mod Placing
 mod Going
-mod Meeting
+pub mod Meeting
 mod Walking

@@ -12,7 +12,7 @@ use fs_map::FileMap;
 use std::alloc::Global;
 
 /// A path lease that a server has from another one. One that is used is borrowed, and comes back held.
-#[derive(Debug)]
+#[derive(Debug, Drop)]
 pub enum Having {
     /// It may be used.
     Held(Held),

@@ -8,7 +8,7 @@ use std::alloc::Global;
 use std::marker::Model;
 
 /// A path lease that may be used.
-#[derive(Debug)]
+#[derive(Debug, Drop)]
 pub struct Held {
     no: PathNo,
     from: u8,

@@ -9,7 +9,7 @@ use std::alloc::Global;
 use std::marker::Model;
 
 /// A path lease that another server has from this one.
-#[derive(Debug)]
+#[derive(Debug, Drop)]
 pub struct Issued {
     no: PathNo,
     to: u8,

@@ -6,7 +6,7 @@ use std::alloc::Global;
 use std::marker::Model;
 
 /// A path lease that is used for nothing any more. No path can be taken from it.
-#[derive(Debug)]
+#[derive(Debug, Drop)]
 pub struct Leaving {
     no: PathNo,
     from: u8,

@@ -23,7 +23,7 @@ use std::alloc::Global;
 use std::marker::Model;
 
 /// What a server keeps of path leases: none can be dropped, each has to be spent in one of the ways that its state has.
-#[derive(Debug)]
+#[derive(Debug, Drop)]
 pub struct Paths {
     issued: List<Issued>,
     held: List<Having>,
@@ -136,6 +136,30 @@ impl Paths {
         recalls_over(alloc, self.issued.as_slice(), file)
     }
 
+    /// What `recall` comes to for the lease of this number; nothing changes.
+    pub fn recall_of(&self, alloc: Global, no: PathNo) -> Result<Recalled, Memory>
+        ensures { IfOk result (λ r. r ≡ recalled no self.now) }
+    {
+        let Some(to) = reads::held_from(self.held.as_slice(), no) else {
+            return Ok(Recalled::Unheld);
+        };
+        let asked = Asked::Number(no);
+        let down = giving::recalls(alloc, self.issued.as_slice(), self.held.as_slice(), &asked)?;
+        Ok(Recalled::first_down(to, down))
+    }
+
+    /// The lease of this number from another server goes where no path that was given out goes over its file, and else is leaving. It
+    /// takes no memory.
+    pub fn recall(&mut self, no: PathNo)
+        ensures { self.new ≡ after_recalled no self.old }
+    {
+        giving::give_back(
+            self.held.items_mut(),
+            self.issued.as_slice(),
+            &Asked::Number(no),
+        );
+    }
+
     /// The lease of this number from another server is asked back: it goes where no path that was given out goes over its file,
     /// and else is leaving.
     pub fn recalled(&mut self, alloc: Global, no: PathNo) -> Result<Recalled, Memory>
@@ -152,6 +176,28 @@ impl Paths {
         Ok(Recalled::first_down(to, down))
     }
 
+    /// The leaving leases that go back with the lease of this number, which was given out, each with the server to which it goes, in
+    /// order of number; nothing changes.
+    pub fn releases_with(&self, alloc: Global, no: PathNo) -> Result<List<(u8, PathNo)>, Memory>
+        ensures { IfOk result (λ list. list ≡
+            releases is_leaving (without_no no self.now.issued) self.now.held) }
+    {
+        giving::releases_but(alloc, self.issued.as_slice(), self.held.as_slice(), no)
+    }
+
+    /// The lease of this number that was given out is back, and the leaving ones go whose file no path that was given out goes over any
+    /// more. It takes no memory.
+    pub fn release(&mut self, no: PathNo)
+        ensures { self.new ≡ after_released no self.old }
+    {
+        drop_issued(self.issued.items_mut(), no);
+        giving::give_back(
+            self.held.items_mut(),
+            self.issued.as_slice(),
+            &Asked::Leaving,
+        );
+    }
+
     /// The lease of this number that was given out is back. The leaving ones go whose file no path that was given out goes over
     /// any more; each is told with the server to which it goes, in order of number.
     pub fn released(&mut self, alloc: Global, no: PathNo) -> Result<List<(u8, PathNo)>, Memory>
@@ -160,14 +206,41 @@ impl Paths {
         ensures state { OnOk result (self.new ≡ after_released no self.old) }
         ensures err { OnErr result (self.new ≡ self.old) }
     {
-        let list = giving::releases_but(alloc, self.issued.as_slice(), self.held.as_slice(), no)?;
-        drop_issued(self.issued.items_mut(), no);
+        let list = self.releases_with(alloc, no)?;
+        self.release(no);
+        Ok(list)
+    }
+
+    /// What `ask_back` comes to for the files below the prefix that are `me`'s; nothing changes.
+    pub fn back_from(
+        &self,
+        alloc: Global,
+        prefix: &FileId,
+        map: &FileMap,
+        me: u8,
+    ) -> Result<GiveBack, Memory>
+        ensures { IfOk result (λ g. g ≡ give_back map.now me prefix.now self.now) }
+    {
+        let asked = Asked::Into(map, me, prefix);
+        let recalls = giving::recalls(alloc, self.issued.as_slice(), self.held.as_slice(), &asked)?;
+        let releases = giving::releases(
+            alloc,
+            self.issued.as_slice(),
+            self.held.as_slice(),
+            &asked,
+        )?;
+        Ok(GiveBack { recalls, releases })
+    }
+
+    /// The leases from other servers whose path goes over a file below the prefix that is `me`'s go, or are leaving. It takes no memory.
+    pub fn ask_back(&mut self, prefix: &FileId, map: &FileMap, me: u8)
+        ensures { self.new ≡ after_give_back map.now me prefix.now self.old }
+    {
         giving::give_back(
             self.held.items_mut(),
             self.issued.as_slice(),
-            &Asked::Leaving,
+            &Asked::Into(map, me, prefix),
         );
-        Ok(list)
     }
 
     /// All leases whose path goes over a file below the prefix that is `me`'s are asked back: those given out of their holders,
@@ -183,16 +256,9 @@ impl Paths {
         ensures state { OnOk result (self.new ≡ after_give_back map.now me prefix.now self.old) }
         ensures err { OnErr result (self.new ≡ self.old) }
     {
-        let asked = Asked::Into(map, me, prefix);
-        let recalls = giving::recalls(alloc, self.issued.as_slice(), self.held.as_slice(), &asked)?;
-        let releases = giving::releases(
-            alloc,
-            self.issued.as_slice(),
-            self.held.as_slice(),
-            &asked,
-        )?;
-        giving::give_back(self.held.items_mut(), self.issued.as_slice(), &asked);
-        Ok(GiveBack { recalls, releases })
+        let told = self.back_from(alloc, prefix, map, me)?;
+        self.ask_back(prefix, map, me);
+        Ok(told)
     }
 
     /// The transaction keeps the file where it is, beside those that keep it already.

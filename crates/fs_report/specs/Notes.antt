@@ -13,6 +13,7 @@ use Rattle.fs_field.specs.declared.asked.Need.TheVariants.{Lease, Fresh}
 use Rattle.fs_field.specs.declared.vote.Vote.{Vote}
 use Rattle.fs_field.specs.declared.vote.Vote.TheVariants as vote
 use Rattle.fs_ident.specs.declared.actor.LeaseNo.{LeaseNo}
+use Rattle.fs_ident.specs.declared.actor.PathNo.{PathNo}
 use Rattle.fs_ident.specs.declared.actor.TxnNo.{TxnNo}
 use Rattle.fs_record.specs.declared.led_end.Why.{Why}
 use Rattle.fs_record.specs.declared.led_end.Why.TheVariants as why
@@ -65,6 +66,10 @@ refusal_text (refusal.Paths number) = codes "paths " ++ path_text number
 -- a word and the transaction that it is said of
 abbrev pub txn_note : List ℕ → TxnNo → List ℕ
 txn_note word txn = word ++ (codes " " ++ txn_text txn)
+
+-- a word and the path lease that it is said of
+abbrev pub path_note : List ℕ → PathNo → List ℕ
+path_note word given = word ++ (codes " " ++ path_text given)
 
 -- a lease that was over, its end, and the reading at which that was seen
 abbrev pub ended_text : LeaseNo → ℕ → ℕ → List ℕ
@@ -123,6 +128,16 @@ server_note_text (server.Waits txn) = txn_note (codes "waits") txn
 server_note_text (server.Seeks txn to) = txn_note (codes "seeks") txn ++ (codes " " ++ server_text to)
 server_note_text (server.Applies txn) = txn_note (codes "applies") txn
 server_note_text (server.Ends txn) = txn_note (codes "ends") txn
+server_note_text (server.PathGrants given) = path_note (codes "pathgrants") given
+server_note_text (server.PathDenies w) = codes "pathdenies " ++ why_text w
+server_note_text (server.PathHolds given) = path_note (codes "pathholds") given
+server_note_text (server.PathDrops given) = path_note (codes "pathdrops") given
+server_note_text (server.PathSeeks file to) = codes "pathseeks " ++ (id_text file ++ (codes " " ++ server_text to))
+server_note_text (server.PathFails w) = codes "pathfails " ++ why_text w
+server_note_text (server.PathFrees given) = path_note (codes "pathfrees") given
+server_note_text (server.PathDown given count) = path_note (codes "pathdown") given ++ (codes " " ++ decimal count)
+server_note_text (server.PathBack given) = path_note (codes "pathback") given
+server_note_text server.PathNone = codes "none"
 server_note_text (server.Reaps count) = codes "reaps " ++ decimal count
 server_note_text (server.Recalls count) = codes "recalls " ++ decimal count
 server_note_text (server.Installs prefix) = codes "installs " ++ id_text prefix

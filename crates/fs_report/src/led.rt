@@ -1,10 +1,10 @@
-//! The texts of led operations: why something is asked again, votes, and transactions.
+//! The texts of led operations: why something is asked again, votes, transactions, and path leases.
 ghost use Rattle.std.specs.Prelude.{◌≡◌, ◌++◌, ◌∷◌, OnOk};
-ghost use Rattle.fs_report.specs.Notes.{ended_text, txn_note, vote_text, why_text};
+ghost use Rattle.fs_report.specs.Notes.{ended_text, path_note, txn_note, vote_text, why_text};
 
 use crate::pieces::{next_id, next_lease, next_number, next_path, next_peer, next_txn, put_bytes};
 use fs_field::Vote;
-use fs_ident::{LeaseNo, Memory, Peer, TxnNo};
+use fs_ident::{LeaseNo, Memory, PathNo, Peer, TxnNo};
 use fs_record::Why;
 use std::alloc::Global;
 
@@ -19,6 +19,19 @@ pub(crate) fn put_txn_note(
 {
     put_bytes(word, out)?;
     next_txn(alloc, txn, out)
+}
+
+/// A word and the path lease that it is said of.
+pub(crate) fn put_path_note(
+    alloc: Global,
+    word: &[u8],
+    no: PathNo,
+    out: &mut Vec<u8>,
+) -> Result<(), Memory>
+    ensures { OnOk result (out.new.items ≡ out.old.items ++ path_note word.now no) }
+{
+    put_bytes(word, out)?;
+    next_path(alloc, no, out)
 }
 
 /// A space, the lease that was over, its end, and the reading at which that was seen.

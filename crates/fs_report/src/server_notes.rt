@@ -3,7 +3,7 @@ ghost use Rattle.std.specs.Prelude.{◌≡◌, ◌++◌, OnOk};
 ghost use Rattle.fs_report.specs.Notes.{gaps_text, server_note_text};
 
 use crate::ends::put_progress;
-use crate::led::{next_ended, next_vote, next_why, put_txn_note};
+use crate::led::{next_ended, next_vote, next_why, put_path_note, put_txn_note};
 use crate::pieces::{next_id, next_number, next_peer, put_bytes};
 use crate::refusals::next_refusal;
 use crate::reply_text::next_reply;
@@ -60,6 +60,29 @@ pub(crate) fn put_server_note(
         }
         ServerNote::Applies { txn } => put_txn_note(alloc, b"applies", *txn, out),
         ServerNote::Ends { txn } => put_txn_note(alloc, b"ends", *txn, out),
+        ServerNote::PathGrants { no } => put_path_note(alloc, b"pathgrants", *no, out),
+        ServerNote::PathDenies { why } => {
+            put_bytes(b"pathdenies", out)?;
+            next_why(alloc, why, out)
+        }
+        ServerNote::PathHolds { no } => put_path_note(alloc, b"pathholds", *no, out),
+        ServerNote::PathDrops { no } => put_path_note(alloc, b"pathdrops", *no, out),
+        ServerNote::PathSeeks { file, to } => {
+            put_bytes(b"pathseeks", out)?;
+            next_id(alloc, file, out)?;
+            next_peer(alloc, Peer::Server(*to), out)
+        }
+        ServerNote::PathFails { why } => {
+            put_bytes(b"pathfails", out)?;
+            next_why(alloc, why, out)
+        }
+        ServerNote::PathFrees { no } => put_path_note(alloc, b"pathfrees", *no, out),
+        ServerNote::PathDown { no, count } => {
+            put_path_note(alloc, b"pathdown", *no, out)?;
+            next_number(alloc, *count, out)
+        }
+        ServerNote::PathBack { no } => put_path_note(alloc, b"pathback", *no, out),
+        ServerNote::PathNone => put_bytes(b"none", out),
         ServerNote::Reaps { count } => {
             put_bytes(b"reaps", out)?;
             next_number(alloc, *count, out)

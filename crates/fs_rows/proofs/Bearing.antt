@@ -68,7 +68,7 @@ bears-with_rows dir k (r ∷ rs) rows =
     ∙ under_append k (borne_numbers dir (with_row r rows)) (borne_numbers dir (r ∷ rows)) (borne_numbers dir rs) (bears-with_row dir k r rows)
     ∙ either_end k (number_below dir r) (borne_numbers dir rows) (borne_numbers dir rs)
 
-borne_here : (k : ℕ) (o : Option ℕ) (ns : List ℕ) → o ≡ Some k → bears k (cons_option o ns) ≡ true
+pub borne_here : (k : ℕ) (o : Option ℕ) (ns : List ℕ) → o ≡ Some k → bears k (cons_option o ns) ≡ true
 borne_here k o ns e = ap (λ p. bears k (cons_option p ns)) e ∙ ap (λ b. b || bears k ns) (nat_eq_equiv.refl k)
 
 borne_behind : (k : ℕ) (o : Option ℕ) (ns : List ℕ) → bears k (cons_option o ns) ≡ false → bears k ns ≡ false

@@ -72,7 +72,7 @@ set_none m n k v w h s e = ap listed (ap (λ x. get x k) (map_of_set m n k v w h
 
 -- ## Fields
 
-parts : (f g : Field) → same_field f g ≡ (same (file_of f) (file_of g) && same_fact f g)
+pub parts : (f g : Field) → same_field f g ≡ (same (file_of f) (file_of g) && same_fact f g)
 parts (Life a) (Life b) = sym (and-true (same a b))
 parts (Child a m) (Child b n) = refl
 parts (Names a) (Names b) = sym (and-true (same a b))

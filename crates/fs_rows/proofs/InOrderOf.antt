@@ -13,7 +13,7 @@ use Rattle.fs_ident.proofs.Booleans.{joined}
 use Rattle.fs_field.specs.Table.{same_no, no_before}
 use Rattle.fs_field.proofs.SameNo.{same_no_is}
 use Rattle.fs_rows.specs.Index.{has_number}
-use Rattle.fs_rows.specs.Told.{is_rising}
+use Rattle.fs_rows.specs.Picked.{is_rising}
 
 abbrev pub no_cmp : LeaseNo → LeaseNo → Ordering
 no_cmp a b = ordering_then (nat_cmp a.server b.server) (nat_cmp a.count b.count)

@@ -16,3 +16,4 @@ mod Placing
 mod Children
 mod Picking
 mod InOrderOf
+mod Below

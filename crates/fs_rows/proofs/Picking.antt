@@ -15,7 +15,7 @@ use Rattle.fs_field.proofs.SameNo.{same_no_self, same_no_symm, same_no_is}
 use Rattle.fs_rows.specs.Index.{has_number}
 use Rattle.fs_rows.specs.Index.{numbers_of, IsIndexOf}
 use Rattle.fs_rows.specs.Live.{unlocked_on}
-use Rattle.fs_rows.specs.Told.{is_rising, picked, AreRising}
+use Rattle.fs_rows.specs.Picked.{is_rising, picked, AreRising}
 use Rattle.fs_rows.specs.declared.index.FieldIndex.{FieldIndex}
 use Rattle.fs_rows.proofs.Seeking.{passing, unlike, not_back}
 

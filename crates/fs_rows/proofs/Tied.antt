@@ -259,7 +259,7 @@ rows_changed index g same rows h w f n = h w f n ∙ sym (unchanged rows)
 
 -- ## What it tells
 
-any_there : {X : Type 0} (test : X → Bool) (x : X) (xs : List X) → In x xs → test x ≡ true → list_any test xs ≡ true
+pub any_there : {X : Type 0} (test : X → Bool) (x : X) (xs : List X) → In x xs → test x ≡ true → list_any test xs ≡ true
 any_there test x [] i h = absurd i
 any_there test x (y ∷ ys) i h = elim i [
   | inl e ↦ ap (λ t. t || list_any test ys) (ap test (sym e) ∙ h)

@@ -9,4 +9,5 @@ pub mod Bounds
 -- cited by private calls alone
 pub mod Index
 pub mod Sought
-pub mod Told
+pub mod Picked
+pub mod Borne

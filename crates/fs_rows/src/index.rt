@@ -1,13 +1,17 @@
 //! The numbers of the rows on each field: by file, in order, and for each file by what of it a row is on.
 ghost use Rattle.std.specs.Prelude.{◌≡◌, ◌∷◌, [], true, IfOk, OnOk};
+ghost use Rattle.std.specs.List.{filter};
 ghost use Rattle.std.specs.Option.{option_copied, option_map};
 ghost use Rattle.std.specs.FinMap.{get, insert};
 ghost use Rattle.fs_ident.specs.Maps.{map_of};
 ghost use Rattle.fs_field.specs.declared.field.Field.{Field as TheField};
 ghost use Rattle.fs_field.specs.declared.field.Field.TheVariants.{Names};
 ghost use Rattle.fs_field.specs.Field.{file_of, tells_no_mode};
+ghost use Rattle.fs_field.specs.Table.{is_live, is_ordered};
+ghost use Rattle.fs_rows.specs.Borne.{is_on};
 ghost use Rattle.fs_rows.specs.Index.{ChangesAt, ChangesIn, ChangesOf, IsIndexOf, IsNoted, and_number, but_number, children_of, has_none, listed, numbers_at, numbers_in, numbers_of};
 
+use crate::seek::{any_at, any_under};
 use fs_field::{Field, Row};
 use fs_ident::{FileId, LeaseNo, List, Memory, Name, Twin};
 use std::alloc::Global;
@@ -58,6 +62,13 @@ impl FieldIndex {
         ensures { result ≡ self.now.whole }
     {
         self.whole
+    }
+
+    /// What is on each file.
+    pub(crate) fn files(&self) -> &BTreeMap<FileId, OnFile>
+        ensures { result.now ≡ self.now.files }
+    {
+        &self.files
     }
 
     /// The numbers on the field.
@@ -190,6 +201,18 @@ impl OnFile {
             && self.names.is_empty()
             && (self.info.is_empty() && self.own.is_empty())
             && self.children.len() == 0
+    }
+
+    /// Whether a row that is not over is on a field of this file.
+    pub(crate) fn has_any(&self, rows: &[Row], now: u64, skew: u64) -> bool
+        requires { is_ordered rows.now ≡ true }
+        ensures { result ≡ is_on self.now (filter (is_live now skew) rows.now) }
+    {
+        any_at(rows, self.life.as_slice(), now, skew)
+            || any_at(rows, self.names.as_slice(), now, skew)
+            || any_at(rows, self.info.as_slice(), now, skew)
+            || any_at(rows, self.own.as_slice(), now, skew)
+            || any_under(rows, &self.children, now, skew)
     }
 
     /// The numbers on the field of this file.

@@ -2,7 +2,9 @@
 #![tactic(auto)]
 
 mod against;
+mod borne;
 mod bounds;
+mod found;
 mod given_files;
 mod grants;
 mod index;
@@ -15,7 +17,6 @@ mod once;
 mod reads;
 mod rows;
 mod seek;
-mod told;
 
 pub use bounds::{any_lock, is_ahead, least_end, lesser, or_locks};
 pub use given_files::GivenFiles;

@@ -12,7 +12,6 @@ ghost use Rattle.fs_rows.specs.Live.{unlocked_on};
 ghost use Rattle.fs_rows.specs.Moving.{are_new, fits, locked_in, rows_given};
 
 use crate::index::FieldIndex;
-use crate::once::put_in_order;
 use crate::{moving, reads};
 use fs_field::{Asked, Field, LeaseKind, Row};
 use fs_ident::{FileId, LeaseNo, List, Memory, Session, TxnNo};
@@ -192,9 +191,7 @@ impl<'a> Live<'a> {
     pub fn borne(&self, alloc: Global, dir: &FileId) -> Result<List<u32>, Memory>
         ensures { IfOk result (AreInOrderOnce (borne_numbers dir.now self.now)) }
     {
-        let mut told = reads::borne(alloc, self.rows, self.reading, self.skew, dir)?;
-        put_in_order(told.items_mut());
-        Ok(told)
+        reads::borne(alloc, self.rows, self.index, self.reading, self.skew, dir)
     }
 
     /// The numbers and sessions of the rows on the field that no transaction keeps, in order of number.

@@ -1,5 +1,5 @@
 //! What is read of the rows that are not over at a reading.
-ghost use Rattle.std.specs.Prelude.{◌≡◌, ◌==◌, ◌&&◌, true, IfOk};
+ghost use Rattle.std.specs.Prelude.{◌≡◌, ◌==◌, ◌&&◌, ℕ, true, IfOk};
 ghost use Rattle.std.specs.List.{filter, find, list_any};
 ghost use Rattle.std.specs.Option.{option_copied};
 ghost use Rattle.fs_field.specs.Conflict.{stands_against};
@@ -7,14 +7,17 @@ ghost use Rattle.fs_field.specs.Field.{same_field};
 ghost use Rattle.fs_field.specs.declared.row.Row.{Row as TheRow};
 ghost use Rattle.fs_field.specs.Table.{has_no, is_lease, is_live, is_ordered, lock_on, child_number, borne_numbers};
 ghost use Rattle.fs_rows.specs.Answer.{answer};
+ghost use Rattle.fs_rows.specs.Bearing.{AreInOrderOnce};
 ghost use Rattle.fs_rows.specs.Index.{IsIndexOf, IsSeen};
 ghost use Rattle.fs_rows.specs.Live.{unlocked_on};
 ghost use Rattle.fs_rows.specs.Sought.{is_list};
 
 use crate::against::{directory_of, is_list, stands_against};
+use crate::borne::borne_by;
+use crate::found::unlocked_by;
 use crate::index::FieldIndex;
+use crate::once::put_in_order;
 use crate::seek::{Sought, least_among, least_named, lesser, live_at};
-use crate::told::unlocked_by;
 use fs_field::table::{child_number, is_lease, is_live};
 use fs_field::{Asked, Field, LeaseKind, Row};
 use fs_ident::{FileId, LeaseNo, List, Memory, Session, TxnNo};
@@ -348,9 +351,48 @@ fn holds_in(
     false
 }
 
-/// The last numbers of the files right below the directory that rows are on.
+/// The last numbers of the files right below the directory that rows are on, each once, ascending.
+pub(crate) fn borne(
+    alloc: Global,
+    rows: &[Row],
+    index: Option<&FieldIndex>,
+    now: u64,
+    skew: u64,
+    dir: &FileId,
+) -> Result<List<u32>, Memory>
+    requires { IsSeen index rows.now }
+    ensures { IfOk result (AreInOrderOnce
+        (borne_numbers dir.now (filter (is_live now skew) rows.now))) }
+{
+    let mut told = borne_any(alloc, rows, index, now, skew, dir)?;
+    put_in_order(told.items_mut());
+    Ok(told)
+}
+
+/// The same, in any order.
+fn borne_any(
+    alloc: Global,
+    rows: &[Row],
+    index: Option<&FieldIndex>,
+    now: u64,
+    skew: u64,
+    dir: &FileId,
+) -> Result<List<u32>, Memory>
+    requires { IsSeen index rows.now }
+    ensures { IfOk result (λ told. (k : ℕ) → list_any (λ b. b == k) told ≡
+        list_any (λ b. b == k) (borne_numbers dir.now (filter (is_live now skew) rows.now))) }
+{
+    if let Some(index) = index {
+        if index.is_whole() {
+            return borne_by(alloc, rows, index, now, skew, dir);
+        }
+    }
+    borne_in(alloc, rows, now, skew, dir)
+}
+
+/// The same, of all rows in turn.
 #[tactic(auto, using(crate::proofs::LiveSteps::borne_step))]
-pub fn borne(
+fn borne_in(
     alloc: Global,
     rows: &[Row],
     now: u64,

@@ -13,13 +13,12 @@ ghost use Rattle.fs_rows.specs.Index.{IsIndexOf};
 ghost use Rattle.fs_rows.specs.Table.{IsTable};
 
 use crate::bounds::{lapse_from, least_end, least_known_lock, lesser, or_locks, unlock_known};
+use crate::found::on_by;
 use crate::index::FieldIndex;
 use crate::indexed::{forget_given, forget_row};
 use crate::live::Live;
 use crate::moving::{add_all, drop_given};
-use crate::once::put_in_order;
 use crate::seek::{put_row, row_at};
-use crate::told::on_by;
 use crate::{grants, numbered, reads};
 use fs_field::{Asked, Field, LeaseKind, Row, Unknown, table};
 use fs_ident::{FileId, LeaseNo, List, Memory, Session, Twin, TxnNo};
@@ -229,9 +228,7 @@ impl Rows {
     pub fn borne(&self, alloc: Global, dir: &FileId) -> Result<List<u32>, Memory>
         ensures { IfOk result (AreInOrderOnce (borne_numbers dir.now self.now)) }
     {
-        let mut told = table::borne(alloc, self.rows.as_slice(), dir)?;
-        put_in_order(told.items_mut());
-        Ok(told)
+        self.all().borne(alloc, dir)
     }
 
     /// Takes the rows on files that the piece gives out of the table: these, in order of number. `Memory` where memory

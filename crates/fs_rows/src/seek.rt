@@ -1,8 +1,11 @@
 //! Rows by number, and the first of those with given numbers.
 ghost use Rattle.std.specs.Prelude.{◌≡◌, ◌≤◌, ◌&&◌, true, length, unwrap_or, OnOk, OnErr};
-ghost use Rattle.std.specs.List.{filter, find, position};
+ghost use Rattle.std.specs.List.{filter, find, list_any, position};
+ghost use Rattle.std.specs.FinMap.{entries};
 ghost use Rattle.std.specs.Option.{option_copied};
+ghost use Rattle.fs_ident.specs.Maps.{map_of};
 ghost use Rattle.fs_field.specs.Table.{has_no, is_live, is_ordered, no_before, with_row};
+ghost use Rattle.fs_rows.specs.Borne.{any_has, any_named};
 ghost use Rattle.fs_rows.specs.Index.{has_number, is_listed};
 ghost use Rattle.fs_rows.specs.Sought.{lesser_row, passes};
 
@@ -68,6 +71,47 @@ pub fn live_at(rows: &[Row], no: LeaseNo, now: u64, skew: u64) -> Option<&Row>
         }
         None => None,
     }
+}
+
+/// Whether a row with one of these numbers is not over.
+pub(crate) fn any_at(rows: &[Row], numbers: &[LeaseNo], now: u64, skew: u64) -> bool
+    requires { is_ordered rows.now ≡ true }
+    ensures { result ≡ any_has numbers.now (filter (is_live now skew) rows.now) }
+{
+    for no in numbers {
+        if has_live(rows, *no, now, skew) {
+            return true;
+        }
+    }
+    false
+}
+
+/// Whether a row with one of the numbers under any of the names is not over.
+pub(crate) fn any_under(
+    rows: &[Row],
+    named: &BTreeMap<Name, List<LeaseNo>>,
+    now: u64,
+    skew: u64,
+) -> bool
+    requires { is_ordered rows.now ≡ true }
+    ensures { result ≡
+        any_named (entries (map_of named.now)) (filter (is_live now skew) rows.now) }
+{
+    for entry in named.iter() {
+        if any_at(rows, entry.1.as_slice(), now, skew) {
+            return true;
+        }
+    }
+    false
+}
+
+/// Whether the row of the number is not over.
+#[tactic(auto, using(crate::proofs::LiveSteps::found))]
+fn has_live(rows: &[Row], no: LeaseNo, now: u64, skew: u64) -> bool
+    requires { is_ordered rows.now ≡ true }
+    ensures { result ≡ list_any (has_no no) (filter (is_live now skew) rows.now) }
+{
+    live_at(rows, no, now, skew).is_some()
 }
 
 /// The first of the rows with these numbers that is not over and is sought.

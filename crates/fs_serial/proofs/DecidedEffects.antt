@@ -1,5 +1,7 @@
 -- Effects that are decided are on their way to the servers of their files.
 pub mod Underway
+pub mod FewerDirectories
+pub mod StoredBeside
 pub mod GuardRows
 pub mod GrantsPast
 pub mod StandPast

@@ -6,5 +6,8 @@ pub mod Leaving
 pub mod ComingParts
 pub mod Arriving
 pub mod ParcelFits
+pub mod KeptPaths
+pub mod PathSteps
+pub mod QuietSteps
 pub mod Replaced
 pub mod Unlocked

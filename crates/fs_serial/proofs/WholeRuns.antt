@@ -15,6 +15,7 @@ pub mod LedQuestions
 pub mod LedAnswers
 pub mod LedStillDecided
 pub mod LedDones
+pub mod EventsKeep
 pub mod ClusterRuns
 pub mod BegunEvents
 pub mod FairRefusals

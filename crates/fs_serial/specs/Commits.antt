@@ -36,7 +36,11 @@ effects_led file e = led_effects e.op file e.reply
 
 -- its effects are done, and it joins the journal
 abbrev pub with_commit : Session → List ℕ → Entry → Sight → Sight
-with_commit by file e s = record s { records = records_after_all s.records (effects_led file e); journal = s.journal ++ item_of by e ∷ [] }
+with_commit by file e s = record s {
+  records = records_after_all s.records (effects_led file e);
+  stored = records_after_all s.stored (effects_led file e);
+  journal = s.journal ++ item_of by e ∷ [];
+}
 
 -- its session is told so
 abbrev pub with_led : Session → List ℕ → Entry → Settled → Settled

@@ -11,7 +11,6 @@ use Rattle.fs_msg.specs.declared.client_msg.ClientMsg.TheVariants as message
 use Rattle.fs_msg.specs.declared.item.Item.{Item}
 use Rattle.fs_msg.specs.declared.lead.Lead.{Lead}
 use Rattle.fs_record.specs.Applied.{records_after_all}
-use Rattle.fs_record.specs.Fresh.{is_directory}
 use Rattle.fs_record.specs.LedEffects.{led_effects}
 use Rattle.fs_record.specs.Records.{AreRecords, RecordMap, nodes_of}
 use Rattle.fs_record.specs.declared.led_end.LedEnd.TheVariants as end
@@ -30,10 +29,10 @@ use Rattle.fs_serial.specs.Parts.{with_replies}
 use Rattle.fs_serial.specs.World.{CanCome, ClientEvent, IsOther, IsThere, World, WorldHolds, after_begun, after_client, settled_at, sight_in, with_answer, without_question}
 use Rattle.fs_serial.specs.World.ClientEvent.{Hears}
 
--- a file that goes was made, and is no directory
-abbrev pub IsOfFile : RecordMap → List Item → Effect → Type 0
-IsOfFile m journal (RemoveNode file) = IsMade journal file × (is_directory m file ≡ false)
-IsOfFile m journal e = Unit {0}
+-- a file that goes was made; a directory that goes still gives identifiers, which come to nothing
+abbrev pub IsOfFile : List Item → Effect → Type 0
+IsOfFile journal (RemoveNode file) = IsMade journal file
+IsOfFile journal e = Unit {0}
 
 -- a decided effect, where these rows and records stand and all servers hold these nodes together
 pub record DecidedStands (rows : List Row) (m : RecordMap) (held : NodeMap) (journal : List Item) (d : Decided) : Type 0 where
@@ -43,8 +42,8 @@ pub record DecidedStands (rows : List Row) (m : RecordMap) (held : NodeMap) (jou
   pub guarded : IsGuarded rows held d.by d.effect
   -- a file that goes has nothing in it, and nobody has it open
   pub bare : IsBare m d.effect
-  -- and it was made, and is no directory
-  pub file : IsOfFile m journal d.effect
+  -- and it was made
+  pub file : IsOfFile journal d.effect
 
 -- all of them, at a server that has all rows and records
 pub record AllDecidedStand (decided : List Decided) (s : Server) (journal : List Item) : Type 0 where

@@ -1,5 +1,5 @@
 -- What is told of leases that had ended while an operation is led.
-use Rattle.std.specs.Prelude.{◌≡◌, ℕ, ◌≤◌, Some, slice_get}
+use Rattle.std.specs.Prelude.{◌≡◌, ℕ, ◌≤◌, List, Option, Some, None, slice_get}
 use Rattle.fs_ident.specs.In.{In}
 use Rattle.fs_ident.specs.declared.actor.LeaseNo.{LeaseNo}
 use Rattle.fs_ident.specs.declared.actor.Session.{Session}
@@ -13,6 +13,8 @@ use Rattle.fs_msg.specs.declared.server_note.ServerNote.{ServerNote}
 use Rattle.fs_msg.specs.declared.server_note.ServerNote.TheVariants as note
 use Rattle.fs_msg.specs.declared.voted.Voted.{Voted}
 use Rattle.fs_client.specs.declared.led.Led.{Led}
+use Rattle.fs_server.specs.declared.event.ServerEvent.{ServerEvent}
+use Rattle.fs_server.specs.declared.event.ServerEvent.TheVariants.{FromClient}
 use Rattle.fs_server.specs.declared.state.Server.{Server}
 use Rattle.fs_txn.specs.declared.leading.Ending.{Ending}
 use Rattle.fs_txn.specs.declared.leading.Leading.{Leading}
@@ -49,7 +51,24 @@ pub record EndsFair (c : Cluster) : Type 0 where
   pub told : (by : Session) (k : ℕ) (number : LeaseNo) (end now : ℕ)
       → In (k, answer.Led (led.Ended number end now)) (c.lines by).down → WasEnded c by number end now
 
--- where a server notes that an operation that it led is refused, it is one that its session waits for, and that lease had ended
-abbrev pub IsFairAbort : Cluster → ServerNote → Type 0
-IsFairAbort c n = (txn : TxnNo) (number : LeaseNo) (end now : ℕ) → n ≡ note.AbortsEnded txn number end now
-    → (by : Session) × WasEnded c by number end now
+-- ## What is noted
+
+-- the session whose message comes in the event
+abbrev pub asker_of : ServerEvent → Option Session
+asker_of (FromClient by m) = Some by
+asker_of e = None
+
+-- the session of an operation that is led: the one in its leader's table, or, where none is there yet, the one that asks for it now
+abbrev pub session_led : Option Leading → Option Session → Option Session
+session_led (Some l) asker = Some l.leader.session
+session_led None asker = asker
+
+-- the session of a transaction, where these are the servers before the event, and that session asks in it
+abbrev pub session_of_txn : List Server → Option Session → TxnNo → Option Session
+session_of_txn servers asker txn = session_led (led_in servers txn) asker
+
+-- where a server notes in an event between these two that an operation that it led is refused, the transaction's own session waits
+-- for just that, and the lease had ended
+abbrev pub IsFairAbort : Cluster → ServerEvent → Cluster → ServerNote → Type 0
+IsFairAbort c e after n = (txn : TxnNo) (number : LeaseNo) (end now : ℕ) → n ≡ note.AbortsEnded txn number end now
+    → (by : Session) × (session_of_txn c.servers (asker_of e) txn ≡ Some by) × WasEnded after by number end now

@@ -29,3 +29,6 @@ pub mod Seen
 pub mod Runs
 pub mod Refusals
 pub mod EndedLeases
+pub mod Paths
+pub mod PathLaws
+pub mod KeptFiles

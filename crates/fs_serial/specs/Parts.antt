@@ -56,13 +56,13 @@ pub record SessionFits (skew greatest : ℕ) (s : Sight) (by : Session) (d : Set
 
 -- ## Together
 
--- each session with its client as it will be, and what it was told
+-- each session with its client as it will be, and what it was told; a directory whose removal is on its way still gives identifiers
 pub record AllHold (skew greatest : ℕ) (s : Sight) (replied : Session → List Item) (clients : Session → Settled) : Type 0 where
   pub servers : ServersHold s
   pub kept : ServersFit s
   pub sessions : (x : Session) → SessionHolds skew greatest s x (replied x) (clients x)
   pub fitting : (x : Session) → SessionFits skew greatest s x (clients x)
-  pub reserved : FreshReserved (reserved_by clients) s.records s.journal
+  pub reserved : FreshReserved (reserved_by clients) s.stored s.journal
 
 -- the session's client is this now
 abbrev pub with_client : Session → Settled → (Session → Settled) → Session → Settled

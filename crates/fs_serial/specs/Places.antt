@@ -60,9 +60,14 @@ abbrev pub VoteNames : ℕ → Vote → Type 0
 VoteNames servers (vote.Moved prefix to) = to < servers
 VoteNames servers v = Unit {0}
 
+-- no server sends a message of path leases yet
 abbrev pub MessageNames : ℕ → PeerMsg → Type 0
+MessageNames servers (peer.Parcel p) = Unit {0}
+MessageNames servers (peer.Prepare m) = Unit {0}
 MessageNames servers (peer.Vote m) = VoteNames servers m.vote
-MessageNames servers m = Unit {0}
+MessageNames servers (peer.Decide m) = Unit {0}
+MessageNames servers (peer.Done m) = Unit {0}
+MessageNames servers m = ⊥
 
 -- the message goes from one of so many servers to one of them, and names no others
 pub record IsUnderway (servers : ℕ) (f : InFlight) : Type 0 where

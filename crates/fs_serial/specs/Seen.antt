@@ -1,5 +1,5 @@
 -- A cluster, while transactions between its servers are on their way, as each of these would see it if it had all rows and records.
-use Rattle.std.specs.Prelude.{◌≡◌, ℕ, false, List, slice_get, Option, Some, None}
+use Rattle.std.specs.Prelude.{◌≡◌, ℕ, false, List, [], slice_get, Option, Some, None}
 use Rattle.fs_ident.specs.In.{In}
 use Rattle.fs_ident.specs.declared.actor.Session.{Session}
 use Rattle.fs_msg.specs.declared.answer.Answer.{Answer}
@@ -48,6 +48,10 @@ pub record IsAddressed (l : Lines) : Type 0 where
   pub up : (m : ℕ × ClientMsg) → In m l.up → asked_server l.client.exchange ≡ Some m.0
   pub down : (m : ℕ × Answer) → In m l.down → is_recall m.1 ≡ false → asked_server l.client.exchange ≡ Some m.0
 
+-- the server gave out no path, and has none
+abbrev pub HasNoPaths : Server → Type 0
+HasNoPaths s = (s.paths.issued ≡ []) × (s.paths.held ≡ [])
+
 -- all that holds between events, where no reading was greater
 pub record ClusterHolds (skew greatest : ℕ) (c : Cluster) : Type 0 where
   pub parts : (s : Server) → In s c.servers → WorldStands greatest (world_of s c)
@@ -56,3 +60,5 @@ pub record ClusterHolds (skew greatest : ℕ) (c : Cluster) : Type 0 where
   pub places : PlacesHold c
   -- votes, locks, and what is decided
   pub led : LedHolds c
+  -- no server asks for a path yet
+  pub pathless : (s : Server) → In s c.servers → HasNoPaths s

@@ -30,11 +30,11 @@ key_of txn number = record { txn = txn; part = number }
 
 -- what a message says of which part, if it speaks of one
 abbrev pub word_in : PeerMsg → Option (Key × Word)
-word_in (peer.Parcel p) = None
 word_in (peer.Prepare m) = Some (key_of m.txn m.number, Prepare (record { session = m.session; part = m.part }))
 word_in (peer.Vote m) = Some (key_of m.txn m.number, Voted m.vote)
 word_in (peer.Decide m) = Some (key_of m.txn m.number, Decide m.effects)
 word_in (peer.Done m) = Some (key_of m.txn m.number, Done)
+word_in m = None
 
 abbrev pub told_with : ℕ → ℕ → Key × Word → Told
 told_with from to w = record { from = from; to = to; key = w.0; word = w.1 }

@@ -31,7 +31,7 @@ use Rattle.fs_serial.specs.Client.{ClientFits}
 use Rattle.fs_serial.specs.Exchange.{ExchangeFits, ReturnsFit, RenewalsBacked, asked_server, is_recall}
 use Rattle.fs_serial.specs.Parts.{AllHold}
 use Rattle.fs_serial.specs.Settled.{Lease, Settled, settled, settled_now}
-use Rattle.fs_serial.specs.Sight.{Counts, Sight, seen, sight_of}
+use Rattle.fs_serial.specs.Sight.{Counts, Sight, sight_with}
 
 -- the client, the questions that are on their way to the server, and the answers on their way back
 pub record Ends : Type 0 where
@@ -55,7 +55,7 @@ pub record World : Type 0 where
 
 -- what stands there, as far as sessions rely on it
 abbrev pub sight_in : World → Sight
-sight_in w = sight_of w.counts (seen w.decided w.server) w.journal
+sight_in w = sight_with w.counts w.decided w.server w.journal
 
 -- each session is new
 abbrev pub first_ends : ℕ → Session → Ends

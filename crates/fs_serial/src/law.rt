@@ -3,6 +3,7 @@ ghost use Rattle.std.specs.Prelude.{Option, length, ◌≡◌, ◌≢◌, ◌<�
 ghost use Rattle.std.specs.List.{list_all};
 ghost use Rattle.fs_ident.specs.In.{In};
 ghost use Rattle.fs_ident.specs.declared.actor.LeaseNo.{LeaseNo};
+ghost use Rattle.fs_ident.specs.declared.actor.PathNo.{PathNo};
 ghost use Rattle.fs_ident.specs.declared.actor.Session.{Session};
 ghost use Rattle.fs_field.specs.Conflict.{NoConflict};
 ghost use Rattle.fs_field.specs.declared.field.Field.TheVariants.{Other};
@@ -123,7 +124,7 @@ pub fn a_reply_keeps_the_parts()
 {}
 
 /// A server that hands over what it has below a prefix leaves all rows and all records that there are as they were, and
-/// everything at its place.
+/// everything at its place, whatever paths go over it.
 pub fn a_move_leaves_all_as_it_was()
     ensures same { (k : ℕ) (c : Cluster) (s : Server) (prefix : List ℕ) (to : ℕ) →
         slice_get c.servers k ≡ Some s → PlacesHold c →
@@ -132,7 +133,8 @@ pub fn a_move_leaves_all_as_it_was()
     ensures places { (k : ℕ) (c : Cluster) (s : Server) (prefix : List ℕ) (to : ℕ) →
         slice_get c.servers k ≡ Some s → PlacesHold c → (o : Counts) →
         ServersFit (sight_of o (with_all s c) c.journal) → to < length c.servers →
-        move_refusal s.records s.rows s.map s.me prefix to None ≡ None →
+        (through : Option PathNo) →
+        move_refusal s.records s.rows s.map s.me prefix to through ≡ None →
         PlacesHold (after_step k (Move prefix to) (hands_over prefix to s) c) }
 {}
 
@@ -210,7 +212,8 @@ pub fn refusals_are_fair()
 /// Where it is told that an operation which was to be led is refused since a lease had ended, its session waits for just that operation,
 /// which used that lease; no server has its row, nor will; and it had ended at the reading that is told. So it is of each vote that is
 /// counted or comes, of each end that is kept or comes to its session, of what a server notes, and of what a client hears, as long as
-/// no clock is ahead of a server's by more than the skew.
+/// no clock is ahead of a server's by more than the skew. The session of a note is that of the transaction: the one that the leader's
+/// table has for it, or, where it begins in that event, the one that asks.
 pub fn what_is_led_ends_fairly()
     ensures server { (skew greatest now k : ℕ) (e : ServerEvent) (s : Server) (c : Cluster) →
         slice_get c.servers k ≡ Some s → max s.last now ≤ greatest →
@@ -229,7 +232,7 @@ pub fn what_is_led_ends_fairly()
     ensures noted { (skew greatest now k : ℕ) (e : ServerEvent) (s : Server) (c : Cluster) →
         slice_get c.servers k ≡ Some s → max s.last now ≤ greatest →
         greatest ≤ max s.last now + skew → IsThere k e c → ClusterHolds skew greatest c →
-        EndsFair c → IsFairAbort (after_server now k e c) (step s now e).out.note }
+        EndsFair c → IsFairAbort c e (after_server now k e c) (step s now e).out.note }
     ensures heard { (c : Cluster) (by : Session) (from : ℕ) (number : LeaseNo) (end now : ℕ) →
         CanCome by (Hears from (Led (led.Ended number end now))) c → EndsFair c →
         WasEnded c by number end now }

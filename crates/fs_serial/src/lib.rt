@@ -6,6 +6,7 @@ mod decided;
 mod in_flight;
 mod law;
 mod locks;
+mod path_law;
 mod space;
 
 pub use commit::a_commit_keeps_the_parts;
@@ -21,4 +22,8 @@ pub use law::{
     what_was_promised_is_so,
 };
 pub use locks::a_lock_keeps_the_parts;
+pub use path_law::{
+    a_file_that_is_kept_is_on_no_path, a_path_that_is_taken_is_true, path_leases_keep_paths,
+    paths_rest_on_what_servers_keep,
+};
 pub use space::joined;

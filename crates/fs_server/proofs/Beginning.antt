@@ -100,4 +100,4 @@ pub begun_spent : (by : Session) (m : Lead) (s : Server) → IsReady s → next_
 begun_spent by m s r h =
     counter_same by m (txn_of s) (round_of by m s)
     ∙ counter_kept (txn_of s) 0 by (parts_in m) (first_round s)
-    ∙ txns_over s.given s.reaps s.txns r.server.given r.server.reaps (spent_at s h)
+    ∙ txns_over s.given s.reaps s.txns _ r.server.given r.server.reaps (spent_at s h)

@@ -73,6 +73,7 @@ keeping_ready begins txn uses s r few = record {
     given = r.server.given;
     reaps = r.server.reaps;
     txns = counted begins s.txns r.server.txns few;
+    paths = r.server.paths;
     numbers = locked_given txn uses s r;
     whole = r.server.whole;
   };
@@ -91,6 +92,7 @@ with_led s records rows leading ending r n t w = record {
     given = r.server.given;
     reaps = r.server.reaps;
     txns = r.server.txns;
+    paths = r.server.paths;
     numbers = n;
     whole = w;
   };

@@ -17,7 +17,8 @@ use Rattle.fs_msg.specs.declared.msg.Msg.{Msg}
 use Rattle.fs_msg.specs.declared.server_note.ServerNote.{ServerNote}
 use Rattle.fs_msg.specs.declared.server_note.ServerNote.TheVariants as note
 use Rattle.fs_rows.proofs.Numbers.{given_map}
-use Rattle.fs_txn.specs.Leading.{ending_of, leading_of, with_ending, without_done}
+use Rattle.fs_msg.specs.declared.done.Done.{Done}
+use Rattle.fs_txn.specs.Leading.{awaits_done, ending_of, leading_of, with_ending, without_done}
 use Rattle.fs_txn.specs.Locks.{rows_unlocked}
 use Rattle.fs_txn.specs.Preparing.{rows_locked, rows_voted}
 use Rattle.fs_txn.specs.Votes.{Votes, votes_after}
@@ -25,15 +26,16 @@ use Rattle.fs_txn.specs.declared.leading.Ending.{Ending}
 use Rattle.fs_txn.specs.declared.leading.Leading.{Leading}
 use Rattle.fs_txn.proofs.Locking.{none_locked}
 use Rattle.fs_server.specs.Concludes.{goes_on, waits}
-use Rattle.fs_server.specs.Counts.{after_own_vote, ask_for, asked_at, comes_home, counts, counts_own, done_with, seeks, sent_on, with_vote}
+use Rattle.fs_server.specs.Counts.{after_own_vote, ask_for, asked_at, comes_home, counts, counts_own, done_of, done_with, seeks, sent_on, with_vote}
 use Rattle.fs_server.specs.Decided.{CanDecide, stepped_by}
 use Rattle.fs_server.specs.Follows.{to_server}
-use Rattle.fs_server.specs.Gathered.{CanGoOn, IsWhole, keeping, uses_voted, waits_by}
+use Rattle.fs_server.specs.Gathered.{CanGoOn, IsWhole, done_told, keeping, uses_voted, waits_by}
 use Rattle.fs_server.specs.Grants.{IsReady}
 use Rattle.fs_server.specs.Plan.{CanChange, changed, done_change}
-use Rattle.fs_server.specs.Server.{Stepped}
+use Rattle.fs_server.specs.Server.{Stepped, strange}
 use Rattle.fs_server.specs.declared.change.Change.TheVariants as change
 use Rattle.fs_server.specs.declared.decide.Decided.{Decided}
+use Rattle.fs_server.specs.declared.out.ServerOut.{ServerOut}
 use Rattle.fs_server.specs.declared.state.Server.{Server}
 use Rattle.fs_server.proofs.Concluding.{waits_can, waits_so, with_led}
 use Rattle.fs_server.proofs.Kept.{leased_rows}
@@ -142,6 +144,21 @@ done_can txn number s d r ch = record {
   change = subst (λ c. CanChange c s) (sym ch) tt;
   ready = subst (λ c. IsReady (changed c s)) (sym ch) (done_ready (ending_of txn s.ending) number s r);
 }
+
+told_is : (x : Ending) (awaits : List (ℕ × ℕ)) (s : Server)
+    → (let y : Stepped = record { server = (done_with x awaits s).server; out = done_told x awaits } in y) ≡ done_with x awaits s
+told_is x [] s = refl
+told_is x (y ∷ ys) s = refl
+
+-- one that is awaited is taken off
+pub done_so : (x : Ending) (m : Done) (s : Server) (out : ServerOut) → ending_of m.txn s.ending ≡ Some x → awaits_done m.number x.awaits ≡ true
+    → out ≡ done_told (without_done m.number x) (without_done m.number x).awaits
+    → stepped_by (record { change = change.Done m.txn m.number; out = out }) s ≡ done_of (Some x) m s
+done_so x m s out is awaited told =
+    let rest : Ending = without_done m.number x in
+    ap₂ (λ (o : Option Ending) (y : ServerOut). let z : Stepped = record { server = done_change o m.number s; out = y } in z) is told
+    ∙ told_is rest rest.awaits s
+    ∙ sym (ap (λ b. cond b (done_with rest rest.awaits s) (strange s)) awaited)
 
 -- ## The transaction of a vote
 

@@ -1,12 +1,14 @@
 -- Parts that other servers ask for.
-use Rattle.std.proofs.Common.{◌≡◌, ◌||◌, ◌+◌, ℕ, max, Bool, true, false, not, List, [], ◌∷◌, ◌++◌, cond, refl, ap, ap₂, sym, ◌∙◌, subst, map}
-use Rattle.std.specs.Prelude.{Option, Some, None, is_some, nat_lt}
-use Rattle.std.specs.List.{filter, list_all, list_any}
+use mathlib.Core.Path.{fun_ext}
+use Rattle.std.proofs.Common.{◌≡◌, ◌&&◌, ◌==◌, ◌||◌, ◌+◌, ℕ, max, Bool, true, false, not, List, [], ◌∷◌, ◌++◌, cond, refl, ap, ap₂, sym, ◌∙◌, subst, map}
+use Rattle.std.specs.Prelude.{None, nat_lt}
+use Rattle.std.specs.List.{filter, find}
 use Rattle.fs_ident.specs.In.{In}
 use Rattle.fs_ident.proofs.Standing.{In-map, none_pass}
 use Rattle.fs_ident.specs.declared.actor.Session.{Session}
 use Rattle.fs_ident.specs.declared.actor.TxnNo.{TxnNo}
-use Rattle.fs_field.specs.Table.{is_lease, is_live, is_lock_of, unlocked_row}
+use Rattle.fs_field.specs.Field.{same_field}
+use Rattle.fs_field.specs.Table.{has_no, is_lease, is_live, is_lock_of, same_kind, same_no, unlocked_row}
 use Rattle.fs_field.specs.declared.effect.Effect.{Effect}
 use Rattle.fs_field.specs.declared.row.Row.{Row}
 use Rattle.fs_field.specs.declared.used.Part.{Part}
@@ -45,6 +47,26 @@ use Rattle.fs_server.specs.declared.state.Server.{Server}
 use Rattle.fs_server.proofs.Kept.{leased_rows, with_parts}
 use Rattle.fs_server.proofs.Effects.{all_filtered}
 use Rattle.fs_server.proofs.Leading.{no_path, same_gone}
+
+-- ## Rows that change and stay the same leases
+
+lease_same : (a b : Row) → SameLease a b → (by : Session) (u : Use)
+    → is_lease u.no by u.field u.kind b ≡ is_lease u.no by u.field u.kind a
+lease_same a b q by u =
+    ap (λ n. ((same_no n u.no && (b.session.0 == by.0)) && same_field b.field u.field) && same_kind b.kind u.kind) q.number
+    ∙ ap (λ (s : Session). ((has_no u.no a && (s.0 == by.0)) && same_field b.field u.field) && same_kind b.kind u.kind) q.session
+    ∙ ap (λ f. ((has_no u.no a && (a.session.0 == by.0)) && same_field f u.field) && same_kind b.kind u.kind) q.field
+    ∙ ap (λ k. ((has_no u.no a && (a.session.0 == by.0)) && same_field a.field u.field) && same_kind k u.kind) q.kind
+
+has_same : (f : Row → Row) → ((r : Row) → SameLease r (f r)) → (by : Session) (u : Use) (rows : List Row)
+    → has_row (map f rows) by u ≡ has_row rows by u
+has_same f same by u [] = refl
+has_same f same by u (r ∷ rs) = ap₂ (λ a b. a || b) (lease_same r (f r) (same r) by u) (has_same f same by u rs)
+
+-- the same leases have no row then
+pub gone_same : (f : Row → Row) → ((r : Row) → SameLease r (f r)) → (rows : List Row) (by : Session) (uses : List Use)
+    → first_gone (map f rows) by uses ≡ first_gone rows by uses
+gone_same f same rows by uses = ap (λ test. find test uses) (fun_ext (λ (u : Use). ap not (has_same f same by u rows)))
 
 -- ## A vote
 

@@ -1,15 +1,14 @@
 -- What becomes of the first parts of a transaction that begins.
 use Rattle.std.proofs.Common.{◌≡◌, ◌&&◌, ◌+◌, ℕ, Bool, true, false, not, List, []}
 use Rattle.std.proofs.Common.{◌∷◌, ◌++◌, cond, refl, ap, ap₂, sym, ◌∙◌, append_assoc, map}
-use mathlib.Core.Path.{fun_ext}
 use Rattle.std.specs.Prelude.{◌||◌, Some, None, is_some}
-use Rattle.std.specs.List.{find, flat_map}
+use Rattle.std.specs.List.{flat_map}
 use Rattle.std.proofs.lemmas.List.{append-nil}
 use Rattle.std.proofs.lemmas.List.Folds.{list_any-append}
 use Rattle.fs_ident.proofs.Booleans.{first, second}
 use Rattle.fs_ident.specs.declared.actor.Session.{Session}
 use Rattle.fs_ident.specs.declared.actor.TxnNo.{TxnNo}
-use Rattle.fs_field.specs.Table.{has_no, is_lease}
+use Rattle.fs_field.specs.Table.{has_no}
 use Rattle.fs_field.specs.declared.row.Row.{Row}
 use Rattle.fs_field.specs.declared.used.Part.{Part}
 use Rattle.fs_field.specs.declared.used.Use.{Use}
@@ -18,15 +17,15 @@ use Rattle.fs_field.specs.declared.vote.Vote.TheVariants.{Yes, Ended, Moved, Pat
 use Rattle.fs_map.specs.Map.{longest, server_of}
 use Rattle.fs_txn.specs.Preparing.{is_used, moved_to, row_locked, rows_locked, rows_voted, vote_by}
 use Rattle.fs_txn.specs.Votes.{Votes}
-use Rattle.fs_txn.proofs.Locking.{locked, none_locked, stays}
+use Rattle.fs_txn.proofs.Locking.{locked, none_locked, stays, used_same}
 use Rattle.fs_server.specs.Begins.{Round, asked_part, first_round, own_part, part_round, rounds}
 use Rattle.fs_server.specs.Follows.{vote_here}
 use Rattle.fs_server.specs.Gathered.{gathered_by, keeping, uses_voted}
 use Rattle.fs_server.specs.Laws.{has_all}
 use Rattle.fs_server.specs.Server.{is_mine}
-use Rattle.fs_server.specs.Ships.{first_gone, has_row}
 use Rattle.fs_server.specs.declared.begins.Gathered.{Gathered}
 use Rattle.fs_server.specs.declared.state.Server.{Server}
+use Rattle.fs_server.proofs.Following.{gone_same}
 
 -- ## Locks
 
@@ -57,27 +56,10 @@ voted_locked (PathsOut lease) txn us vs rows = ap (λ xs. rows_locked txn xs row
 
 -- ## A lock changes no vote
 
-row_stays : (txn : TxnNo) (us : List Use) (by : Session) (u : Use) (r : Row)
-    → is_lease u.no by u.field u.kind (row_locked txn us r) ≡ is_lease u.no by u.field u.kind r
-row_stays txn us by u r = at (is_used us r && not (is_some r.lock))
-  where
-    at : (b : Bool) → is_lease u.no by u.field u.kind (cond b (locked txn r) r) ≡ is_lease u.no by u.field u.kind r
-    at true = refl
-    at false = refl
-
-has_kept : (txn : TxnNo) (us : List Use) (rows : List Row) (by : Session) (u : Use)
-    → has_row (rows_locked txn us rows) by u ≡ has_row rows by u
-has_kept txn us [] by u = refl
-has_kept txn us (r ∷ rs) by u = ap₂ (λ a b. a || b) (row_stays txn us by u r) (has_kept txn us rs by u)
-
-gone_kept : (txn : TxnNo) (us : List Use) (rows : List Row) (by : Session) (uses : List Use)
-    → first_gone (rows_locked txn us rows) by uses ≡ first_gone rows by uses
-gone_kept txn us rows by uses = ap (λ test. find test uses) (fun_ext (λ u. ap not (has_kept txn us rows by u)))
-
 vote_kept : (begins : Bool) (txn : TxnNo) (us : List Use) (s : Server) (by : Session) (p : Part)
     → vote_here (keeping begins txn us s) by p ≡ vote_here s by p
 vote_kept begins txn us s by p = ap (λ o. cond (is_mine s p.file) (vote_by o None s.last) (moved_to (longest s.map p.file)))
-    (gone_kept txn us s.rows by p.uses)
+    (gone_same (row_locked txn us) (used_same txn us) s.rows by p.uses)
 
 -- ## One part more
 

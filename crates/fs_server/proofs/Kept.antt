@@ -1,5 +1,5 @@
 -- What keeps a server one, and its rows in order.
-use Rattle.std.proofs.Common.{◌≡◌, ℕ, false, List, map}
+use Rattle.std.proofs.Common.{◌≡◌, ℕ, ◌<◌, ◌^◌, false, List, map}
 use Rattle.std.specs.List.{list_any}
 use Rattle.fs_ident.specs.declared.actor.LeaseNo.{LeaseNo}
 use Rattle.fs_ident.specs.In.{In}
@@ -11,6 +11,7 @@ use Rattle.fs_field.proofs.Leases.{SameLease, NoPlainConflict-map, NoPlainConfli
 use Rattle.fs_field.proofs.Order.{ordered_map, ordered_put}
 use Rattle.fs_rows.specs.Given.{AreGiven}
 use Rattle.fs_moderows.proofs.Tables.{TellsSame, renewed_tells}
+use Rattle.fs_path.specs.Tables.{PathTables}
 use Rattle.fs_record.specs.Records.{RecordMap}
 use Rattle.fs_txn.specs.declared.ready.Ready.{Ready}
 use Rattle.fs_server.specs.Rows.{AreRows}
@@ -43,13 +44,24 @@ put_rows row rows new free t = record {
 -- the server with other rows, each with a number that it gave, other records and another map
 pub with_others : (s : Server) (rows : List Row) (records : RecordMap) (map : Owners) → IsReady s → AreGiven s.me s.given rows → AreRows rows → IsReady (record s { rows = rows; records = records; map = map })
 with_others s rows records map r n t = record {
-  server = record { few = r.server.few; skew = r.server.skew; term = r.server.term; last = r.server.last; given = r.server.given; reaps = r.server.reaps; txns = r.server.txns; numbers = n; whole = r.server.whole };
+  server = record { few = r.server.few; skew = r.server.skew; term = r.server.term; last = r.server.last; given = r.server.given; reaps = r.server.reaps; txns = r.server.txns; paths = r.server.paths; numbers = n; whole = r.server.whole };
   table = t;
 }
 
 -- the server with other records, other rows, each with a number that it gave, and other parts that wait
 pub with_parts : (s : Server) (records : RecordMap) (rows : List Row) (prepared : List Ready) → IsReady s → AreGiven s.me s.given rows → AreRows rows → IsReady (record s { records = records; rows = rows; prepared = prepared })
 with_parts s records rows prepared r n t = record {
-  server = record { few = r.server.few; skew = r.server.skew; term = r.server.term; last = r.server.last; given = r.server.given; reaps = r.server.reaps; txns = r.server.txns; numbers = n; whole = r.server.whole };
+  server = record { few = r.server.few; skew = r.server.skew; term = r.server.term; last = r.server.last; given = r.server.given; reaps = r.server.reaps; txns = r.server.txns; paths = r.server.paths; numbers = n; whole = r.server.whole };
   table = t;
 }
+
+-- the server with other path leases, other files of which the path was asked for, and so many that it gave out
+pub with_paths : (s : Server) (paths : PathTables) (asking : List (List ℕ)) (given : ℕ) → given < 2 ^ 64 → IsReady s → IsReady (record s { paths = paths; asking = asking; paths_given = given })
+with_paths s paths asking given few r = record {
+  server = record { few = r.server.few; skew = r.server.skew; term = r.server.term; last = r.server.last; given = r.server.given; reaps = r.server.reaps; txns = r.server.txns; paths = few; numbers = r.server.numbers; whole = r.server.whole };
+  table = r.table;
+}
+
+-- the server with other path leases alone
+pub with_tables : (s : Server) (paths : PathTables) → IsReady s → IsReady (record s { paths = paths })
+with_tables s paths r = with_paths s paths s.asking s.paths_given r.server.paths r

@@ -14,6 +14,7 @@ use Rattle.fs_field.specs.declared.row.Row.{Row}
 use Rattle.fs_field.specs.declared.used.Use.{Use}
 use Rattle.fs_map.specs.Map.{longest}
 use Rattle.fs_model.specs.Asking.{home_of}
+use Rattle.fs_msg.specs.declared.core_error.Counter.{Counter}
 use Rattle.fs_msg.specs.declared.core_error.Counter.TheVariants.{Leases, Reaps, Transactions}
 use Rattle.fs_msg.specs.declared.lead.Lead.{Lead}
 use Rattle.fs_record.specs.declared.led_end.Why.{Why}
@@ -91,9 +92,9 @@ few_more s txn h = by (nat_lt s.txns 0xffff_ffff_ffff_ffff) refl h
     by false t e = absurd (cc)
 
 -- no number is left for it
-pub txns_over : (given reaps txns : ℕ) → given < 2 ^ 64 → reaps < 2 ^ 64 → nat_lt txns 0xffff_ffff_ffff_ffff ≡ false
-    → cond (nat_le (2 ^ 64) given) (Some Leases) (cond (nat_le (2 ^ 64) reaps) (Some Reaps) (cond (nat_le (2 ^ 64) (txns + 1)) (Some Transactions) None)) ≡ Some Transactions
-txns_over given reaps txns g r t = grind (arith, nat_tests)
+pub txns_over : (given reaps txns : ℕ) (rest : Option Counter) → given < 2 ^ 64 → reaps < 2 ^ 64 → nat_lt txns 0xffff_ffff_ffff_ffff ≡ false
+    → cond (nat_le (2 ^ 64) given) (Some Leases) (cond (nat_le (2 ^ 64) reaps) (Some Reaps) (cond (nat_le (2 ^ 64) (txns + 1)) (Some Transactions) rest)) ≡ Some Transactions
+txns_over given reaps txns rest g r t = grind (arith, nat_tests)
 
 pub spent_at : (s : Server) → next_txn s.me s.txns ≡ None → nat_lt s.txns 0xffff_ffff_ffff_ffff ≡ false
 spent_at s h = by (nat_lt s.txns 0xffff_ffff_ffff_ffff) h

@@ -70,6 +70,7 @@ lent_more by field kind promise rows s l fits t = record {
       given = fits;
       reaps = l.ready.server.reaps;
       txns = l.ready.server.txns;
+      paths = l.ready.server.paths;
       numbers = given_next s.me (s.given + length rows) (next_row by field kind promise rows s) (with_rows rows s.rows) refl l.ready.server.numbers;
       whole = l.ready.server.whole;
     };

@@ -20,8 +20,11 @@ mod Owned
 mod Concluding
 mod Counting
 mod Goes
+mod Returning
 mod Gathering
 mod LeaderLaws
 pub mod Splitting
 mod LeadingHere
 mod Beginning
+mod PathAsking
+mod PathLaws

@@ -1,7 +1,9 @@
 -- What the laws of a server say.
-use Rattle.std.specs.Prelude.{◌≡◌, ◌⊎◌, ℕ, ◌+◌, Bool, List, [], ◌∷◌, ◌++◌, map, Option, Some, None, is_some, if◌then◌else◌}
+use Rattle.std.specs.Prelude.{◌≡◌, ◌⊎◌, ℕ, ◌+◌, Bool, true, false, List, [], ◌∷◌, ◌++◌, map, Option, Some, None, is_some, if◌then◌else◌}
 use Rattle.std.specs.List.{flat_map, list_all}
 use Rattle.fs_ident.specs.Ident.{child}
+use Rattle.fs_ident.specs.In.{In}
+use Rattle.fs_ident.specs.declared.actor.PathNo.{PathNo}
 use Rattle.fs_ident.specs.declared.actor.Session.{Session}
 use Rattle.fs_field.specs.declared.asked.Asked.{Asked}
 use Rattle.fs_field.specs.declared.asked.Asked.TheVariants.{Granted, Wait, Locked}
@@ -11,12 +13,16 @@ use Rattle.fs_field.specs.declared.lease_kind.LeaseKind.{LeaseKind}
 use Rattle.fs_field.specs.declared.lease_kind.LeaseKind.TheVariants.{Exclusive}
 use Rattle.fs_field.specs.Field.{file_of}
 use Rattle.fs_field.specs.declared.effect.Effect.{Effect}
+use Rattle.fs_field.specs.declared.path.PathAnswer.TheVariants as found
 use Rattle.fs_field.specs.declared.used.Part.{Part}
 use Rattle.fs_msg.specs.declared.answer.Answer.TheVariants as answer
 use Rattle.fs_msg.specs.declared.answer.Grant.{Grant}
 use Rattle.fs_msg.specs.declared.end.End.{End}
 use Rattle.fs_msg.specs.declared.end.End.TheVariants as end
 use Rattle.fs_msg.specs.declared.lead.Lead.{Lead}
+use Rattle.fs_msg.specs.declared.peer_msg.PeerMsg.TheVariants as peer
+use Rattle.fs_path.specs.Leases.{PathLease}
+use Rattle.fs_path.specs.Tables.{frozen_for}
 use Rattle.fs_record.specs.Applied.{records_after_all}
 use Rattle.fs_txn.specs.Votes.{Votes}
 use Rattle.fs_txn.specs.declared.decision.Decision.{Decision}
@@ -24,7 +30,8 @@ use Rattle.fs_txn.specs.declared.decision.Decision.TheVariants.{Commit, Abort}
 use Rattle.fs_server.specs.Asks.{Asking, answer_to, kind_for}
 use Rattle.fs_server.specs.Begins.{leader_with, parts_in, txn_of}
 use Rattle.fs_server.specs.Concludes.{admitted_of, end_note, end_of_decision}
-use Rattle.fs_server.specs.Follows.{vote_here}
+use Rattle.fs_server.specs.Follows.{to_server, vote_here}
+use Rattle.fs_server.specs.PathSteps.{has_child, is_asking, path_here, path_number, with_path}
 use Rattle.fs_server.specs.Server.{Stepped, is_mine, moved, to_session}
 use Rattle.fs_server.specs.declared.state.Server.{Server}
 
@@ -93,3 +100,35 @@ concluded d by m s = record {
     admitted = admitted_of d (leader_with (txn_of s) by m (votes_here by m s));
   };
 }
+
+-- ## A path that is given out
+
+-- another server asks for the path of a child of the directory, which is managed here, and no transaction keeps the file
+pub record CanBeGiven (file dir : List ℕ) (s : Server) : Type 0 where
+  pub mine : is_mine s dir ≡ true
+  pub child : has_child s.records dir file ≡ true
+  pub free : frozen_for file s.paths.frozen ≡ None
+
+-- the path of the directory is known, and with the file behind it goes to who asked, under the number, which is the next one; but for that
+-- lease among those given out, and the count of numbers, the server is as it was
+pub record IsGivenOut (from : ℕ) (file dir : List ℕ) (number : PathNo) (s : Server) (after : Stepped) : Type 0 where
+  pub above : List (List ℕ)
+  pub lease : PathLease
+  pub known : path_here s dir ≡ found.Path above
+  pub next : number ≡ path_number s
+  pub is : lease ≡ record { no = number; peer = from; file = file; path = above ++ file ∷ [] }
+  pub sent : after.out.send ≡ to_server from (peer.PathGrant number file lease.path) ∷ []
+  pub issued : In lease after.server.paths.issued
+  pub rest : after.server ≡ with_path lease s
+
+-- ## Questions for paths
+
+-- no question for the path of the file stood, and one does
+pub record IsAskedFirst (file : List ℕ) (s after : Server) : Type 0 where
+  pub before : is_asking file s ≡ false
+  pub stands : is_asking file after ≡ true
+
+-- the question is for the path of that file, and all is as it was
+pub record IsSentOn (asked file : List ℕ) (s after : Server) : Type 0 where
+  pub same : asked ≡ file
+  pub rest : after ≡ s

@@ -10,10 +10,12 @@ pub mod Moves
 pub mod Reaps
 pub mod Ships
 pub mod Leads
+pub mod PathSteps
 pub mod Step
 pub mod Plan
 pub mod Laws
 pub mod LeadingLaws
+pub mod ReturnLaws
 -- cited by private calls alone
 pub mod Grants
 pub mod Lost

@@ -21,6 +21,8 @@ use Rattle.fs_server.specs.declared.state.Server.{Server}
 use Rattle.fs_server.specs.Server.{Stepped, only_noted, strange}
 use Rattle.fs_server.specs.Counts.{done_step, vote_step}
 use Rattle.fs_server.specs.Follows.{decide_step, prepare_step}
+use Rattle.fs_server.specs.PathSteps.{asks_back_in, path_ask_step, path_grant_step, path_no_step, path_recall_step, path_release_step}
+use Rattle.fs_path.specs.Tables.{first_in}
 
 -- ## A move
 
@@ -51,13 +53,14 @@ refusal_of (move.Busy txn) = refusal.Busy txn
 refusal_of (move.Paths number) = refusal.Paths number
 refusal_of move.Memory = refusal.NoFile
 
+-- where paths go over what is to go they are asked back
 abbrev pub move_at : Option MoveError → List ℕ → ℕ → Server → Stepped
 move_at None prefix to s = hands_over prefix to s
+move_at (Some (move.Paths number)) prefix to s = asks_back_in prefix (note.Stays (refusal.Paths number)) s
 move_at (Some why) prefix to s = only_noted (note.Stays (refusal_of why)) s
 
--- there are no path leases yet
 abbrev pub move_step : List ℕ → ℕ → Server → Stepped
-move_step prefix to s = move_at (move_refusal s.records s.rows s.map s.me prefix to None) prefix to s
+move_step prefix to s = move_at (move_refusal s.records s.rows s.map s.me prefix to (first_in s.map s.me prefix s.paths)) prefix to s
 
 -- ## A parcel
 
@@ -88,3 +91,8 @@ peer_step from (peer.Prepare m) s = prepare_step from m s
 peer_step from (peer.Vote m) s = vote_step m s
 peer_step from (peer.Decide m) s = decide_step from m s
 peer_step from (peer.Done m) s = done_step m s
+peer_step from (peer.PathAsk file dir) s = path_ask_step from file dir s
+peer_step from (peer.PathGrant number file path) s = path_grant_step from number file path s
+peer_step from (peer.PathNo file w) s = path_no_step file w s
+peer_step from (peer.PathRecall number) s = path_recall_step number s
+peer_step from (peer.PathRelease number) s = path_release_step from number s

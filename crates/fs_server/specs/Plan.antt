@@ -15,9 +15,11 @@ use Rattle.fs_parcel.specs.Parcel.{fits}
 use Rattle.fs_record.specs.Moving.{AreNumbersLeft, records_given, records_left}
 use Rattle.fs_record.specs.Records.{RecordMap, next_of}
 use Rattle.fs_server.specs.declared.change.Change.{Change}
-use Rattle.fs_server.specs.declared.change.Change.TheVariants.{Nothing, Grant, Renew, Free, Admit, Reap, Lead, Done, Prepare, Decide, Leave, Install}
+use Rattle.fs_server.specs.declared.change.Change.TheVariants.{Nothing, Grant, Renew, Free, Admit, Reap, Lead, Done, Prepare, Decide, Leave, Install, Paths}
 use Rattle.fs_server.specs.declared.change.Then.{Then}
 use Rattle.fs_server.specs.declared.change.Then.TheVariants.{Waits, Ends}
+use Rattle.fs_server.specs.declared.path_change.PathChange.{PathChange}
+use Rattle.fs_server.specs.declared.path_change.PathChange.TheVariants.{Ask, Stop, Give, Keep, Recall, Back, AskBack}
 use Rattle.fs_server.specs.declared.plan.Plan.{Plan}
 use Rattle.fs_server.specs.declared.state.Server.{Server}
 use Rattle.fs_server.specs.Server.{begun}
@@ -31,6 +33,8 @@ use Rattle.fs_server.specs.Counts.{done_with}
 use Rattle.fs_server.specs.Follows.{with_part}
 use Rattle.fs_server.specs.Moves.{installed}
 use Rattle.fs_server.specs.Pairs.{renewed_rows, released_rows}
+use Rattle.fs_server.specs.PathSteps.{lease_to, with_asking, with_held_path, with_path, without_asking, without_paths_in}
+use Rattle.fs_path.specs.Returns.{after_recalled, after_released}
 pub use Rattle.fs_server.specs.Rows.{AreRows, is_shaped}
 
 -- ## Changes, without a test
@@ -54,6 +58,17 @@ abbrev pub done_change : Option Ending → ℕ → Server → Server
 done_change None number s = s
 done_change (Some x) number s = (done_with (without_done number x) (without_done number x).awaits s).server
 
+-- what becomes of path leases
+abbrev pub changed_paths : PathChange → Server → Server
+changed_paths (Ask file) s = with_asking file s
+changed_paths (Stop file) s = without_asking file s
+changed_paths (Give to file above) s = with_path (lease_to to file above s) s
+changed_paths (Keep from number file path) s =
+    with_held_path (record { no = number; peer = from; file = file; path = path }) (without_asking file s)
+changed_paths (Recall number) s = record s { paths = after_recalled number s.paths }
+changed_paths (Back number) s = record s { paths = after_released number s.paths }
+changed_paths (AskBack prefix) s = without_paths_in prefix s
+
 abbrev pub changed : Change → Server → Server
 changed Nothing s = s
 changed (Grant rows gift) s = record s { given = s.given + length rows; rows = with_rows rows s.rows; records = after_gift gift s.records }
@@ -76,6 +91,7 @@ changed (Leave to piece moved) s = record s {
   map = map_after_take s.map to piece.prefix piece.given;
 }
 changed (Install p) s = installed p s
+changed (Paths ch) s = changed_paths ch s
 
 -- the server after the plan: the rows that are over are dropped first
 abbrev pub committed : Plan → Server → Server
@@ -92,6 +108,7 @@ pub record IsServer (s : Server) : Type 0 where
   pub given : s.given < 2 ^ 64
   pub reaps : s.reaps < 2 ^ 64
   pub txns : s.txns < 2 ^ 64
+  pub paths : s.paths_given < 2 ^ 64
   pub numbers : AreGiven s.me s.given s.rows
   pub whole : AreWhole s.leading
 

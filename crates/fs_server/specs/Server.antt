@@ -13,6 +13,7 @@ use Rattle.fs_msg.specs.declared.msg.Msg.{Msg}
 use Rattle.fs_msg.specs.declared.msg.Msg.TheVariants as msg
 use Rattle.fs_msg.specs.declared.server_note.ServerNote.{ServerNote}
 use Rattle.fs_msg.specs.declared.server_note.ServerNote.TheVariants as note
+use Rattle.fs_path.specs.Tables.{no_paths}
 use Rattle.fs_record.specs.Records.{first_records}
 use Rattle.fs_server.specs.declared.out.ServerOut.{ServerOut}
 use Rattle.fs_server.specs.declared.state.Server.{Server}
@@ -38,6 +39,9 @@ first_server me skew term = record {
   prepared = [];
   leading = [];
   ending = [];
+  paths = no_paths;
+  asking = [];
+  paths_given = 0;
 }
 
 -- the reading of the event is the greatest so far, and the rows that are over at it are dropped

@@ -12,7 +12,7 @@ use Rattle.fs_msg.specs.declared.answer.Answer.TheVariants as reply
 use Rattle.fs_msg.specs.declared.client_msg.ClientMsg.{ClientMsg}
 use Rattle.fs_msg.specs.declared.client_msg.ClientMsg.TheVariants.{Ask, Renew, Release, Ship, Lead}
 use Rattle.fs_msg.specs.declared.core_error.Counter.{Counter}
-use Rattle.fs_msg.specs.declared.core_error.Counter.TheVariants.{Leases, Reaps, Transactions}
+use Rattle.fs_msg.specs.declared.core_error.Counter.TheVariants.{Leases, Reaps, Transactions, Paths}
 use Rattle.fs_msg.specs.declared.msg.Msg.{Msg}
 use Rattle.fs_msg.specs.declared.server_note.ServerNote.TheVariants as note
 use Rattle.fs_server.specs.declared.event.ServerEvent.{ServerEvent}
@@ -72,7 +72,8 @@ CanBeTold e = Unit {0}
 abbrev pub counter_over : Server → Option Counter
 counter_over s =
     if nat_le (2 ^ 64) s.given then Some Leases
-    else (if nat_le (2 ^ 64) s.reaps then Some Reaps else (if nat_le (2 ^ 64) s.txns then Some Transactions else None))
+    else (if nat_le (2 ^ 64) s.reaps then Some Reaps
+    else (if nat_le (2 ^ 64) s.txns then Some Transactions else (if nat_le (2 ^ 64) s.paths_given then Some Paths else None)))
 
 abbrev pub spent_by : Server → ℕ → ServerEvent → Option Counter
 spent_by s now e = counter_over (step s now e).server

@@ -2,6 +2,7 @@
 ghost use Rattle.std.specs.Prelude.{◌≡◌, ◌≤◌, IfOk};
 ghost use Rattle.fs_ident.specs.declared.limits.TheConstants.{LATEST};
 ghost use Rattle.fs_server.specs.Grants.{IsReady};
+ghost use Rattle.fs_server.specs.PathSteps.{is_asking};
 ghost use Rattle.fs_server.specs.Plan.{IsServer};
 ghost use Rattle.fs_server.specs.Server.{begun, end_of, is_mine, moved};
 
@@ -10,6 +11,7 @@ use crate::state::Server;
 use fs_ident::{FileId, Memory, Twin};
 use fs_map::FileMap;
 use fs_msg::End;
+use fs_path::Paths;
 use fs_record::Records;
 use fs_txn::{Ending, Leading, Ready};
 use std::alloc::Global;
@@ -132,6 +134,27 @@ impl<'a> AtReading<'a> {
         ensures { result.now ≡ self.now.ending }
     {
         self.server.ending.as_slice()
+    }
+
+    /// Its path leases, and the files that transactions keep where they are.
+    pub(crate) fn paths(&self) -> &Paths
+        ensures { result.now ≡ self.now.paths }
+    {
+        &self.server.paths
+    }
+
+    /// How many path leases it gave out so far.
+    pub(crate) fn paths_given(&self) -> u64
+        ensures { result ≡ self.now.paths_given }
+    {
+        self.server.paths_given
+    }
+
+    /// Whether the path of the file was asked for, and no answer came yet.
+    pub(crate) fn is_asking(&self, file: &FileId) -> bool
+        ensures { result ≡ is_asking file.now self.now }
+    {
+        self.server.asking.as_slice().iter().any(|f| f == file)
     }
 
     /// Whether the server manages the identifier.

@@ -1,4 +1,5 @@
 //! What an event changes.
+use crate::path_change::PathChange;
 use fs_field::{Effect, Row, Use};
 use fs_ident::{FileId, LeaseNo, List, Memory, Twin, TxnNo, copy_three, copy_two};
 use fs_map::MapPiece;
@@ -65,6 +66,10 @@ pub(crate) enum Change {
     /// What another server hands over is put in its place.
     Install {
         parcel: Parcel,
+    },
+    /// What becomes of path leases.
+    Paths {
+        change: PathChange,
     },
 }
 
@@ -151,6 +156,9 @@ impl Twin for Change {
             }
             Change::Install { parcel } => Ok(Change::Install {
                 parcel: parcel.copy(alloc)?,
+            }),
+            Change::Paths { change } => Ok(Change::Paths {
+                change: change.copy(alloc)?,
             }),
         }
     }

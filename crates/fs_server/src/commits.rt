@@ -22,6 +22,7 @@ ghost use Rattle.fs_txn.specs.Ready.{rows_left_by, without_prepared};
 
 use crate::all_rows::AllRows;
 use crate::change::{Change, Then};
+use crate::path_changes::change_paths;
 use crate::state::Server;
 use fs_field::{Effect, Row, Use};
 use fs_ident::{FileId, LeaseNo, List, Memory, Twin, TxnNo, add_copy};
@@ -85,6 +86,7 @@ pub(crate) fn commit(
         }
         Change::Leave { to, piece, moved } => leave(alloc, server, reading, to, &piece, &moved)?,
         Change::Install { parcel } => install(alloc, server, reading, parcel)?,
+        Change::Paths { change } => return change_paths(alloc, server, reading, change),
     }
     server.last = reading;
     Ok(())

@@ -7,6 +7,7 @@ ghost use Rattle.fs_record.specs.Applied.{is_undoable, takes_away};
 ghost use Rattle.fs_server.specs.Concludes.{admitted_of, concludes, end_note, end_of_decision, ends_now, goes_on, tells};
 ghost use Rattle.fs_server.specs.Decided.{CanDecide, stepped_by};
 ghost use Rattle.fs_server.specs.Follows.{to_server};
+ghost use Rattle.fs_server.specs.declared.change.Change.TheVariants as change;
 ghost use Rattle.fs_server.specs.Gathered.{CanGoOn, ends_by, keeping, told_by, waits_by};
 ghost use Rattle.fs_server.specs.Grants.{IsReady};
 ghost use Rattle.fs_txn.specs.Deciding.{told_effects};
@@ -93,6 +94,27 @@ fn concludes(
     let me = at.me();
     let decision = leading.leader.decide(alloc, None)?;
     let others = elsewhere(alloc, me, &leading)?;
+    let d = ended(alloc, me, begins, leading, uses, send, decision, others)?;
+    Ok(d)
+}
+
+/// It ends by this decision, of which these other parts, each with its server, are told.
+fn ended(
+    alloc: Global,
+    me: u8,
+    begins: bool,
+    leading: Leading,
+    uses: List<Use>,
+    send: List<(Peer, Msg)>,
+    decision: Decision,
+    others: List<(u8, u8)>,
+) -> Result<Decided, Memory>
+    requires { length leading.leader.votes < 2 ^ 8 }
+    ensures { IfOk result (λ d. d ≡ record {
+      change = change.Lead begins leading.leader.txn uses (ends_by me leading decision others);
+      out = told_by decision others leading.leader send;
+    }) }
+{
     let out = told(alloc, &leading.leader, &decision, others.as_slice(), send)?;
     let rest = ends(alloc, me, &leading, &decision, others)?;
     Ok(Decided {

@@ -21,6 +21,9 @@ use crate::leads::lead;
 use crate::moves::{installs, move_to};
 use crate::out::ServerOut;
 use crate::pairs::{release, renew};
+use crate::path_asks::path_ask;
+use crate::path_grants::{path_grant, path_no};
+use crate::path_returns::{path_recall, path_release};
 use crate::reaps::turn;
 use crate::recalls::recall_all;
 use crate::ships::ship;
@@ -52,24 +55,33 @@ pub(crate) fn decide(
         ServerEvent::FromClient(by, m) => message(alloc, at, *by, m),
         ServerEvent::Turn => turn(alloc, at),
         ServerEvent::Recall(field) => Ok(recall_all(alloc, at, field)?),
-        ServerEvent::FromPeer(from, m) => Ok(from_peer(alloc, at, *from, m)?),
+        ServerEvent::FromPeer(from, m) => from_peer(alloc, at, *from, m),
         ServerEvent::Move { prefix, to } => Ok(move_to(alloc, at, prefix, *to)?),
     }
 }
 
 /// What a message of another server comes to.
-fn from_peer(alloc: Global, at: &AtReading<'_>, from: u8, m: &PeerMsg) -> Result<Decided, Memory>
+fn from_peer(alloc: Global, at: &AtReading<'_>, from: u8, m: &PeerMsg) -> Result<Decided, CoreError>
     requires ready { IsReady at.now }
     requires told { CanBeTold (FromPeer from m.now) }
     ensures step { IfOk result (λ d. stepped_by d at.now ≡ peer_step from m.now at.now) }
     ensures can { IfOk result (λ d. CanDecide d at.now) }
+    ensures spent { (counter : TheCounter) → IsErrOf result (errors.Spent counter) →
+        counter_over (peer_step from m.now at.now).server ≡ Some counter }
 {
     match m {
-        PeerMsg::Parcel { parcel } => installs(alloc, at, parcel),
-        PeerMsg::Prepare { prepare: m } => prepare(alloc, at, from, m),
-        PeerMsg::Vote { voted: m } => vote(alloc, at, m),
-        PeerMsg::Decide { decide: m } => applies(alloc, at, from, m),
-        PeerMsg::Done { done: m } => done(alloc, at, m),
+        PeerMsg::Parcel { parcel } => Ok(installs(alloc, at, parcel)?),
+        PeerMsg::Prepare { prepare: m } => Ok(prepare(alloc, at, from, m)?),
+        PeerMsg::Vote { voted: m } => Ok(vote(alloc, at, m)?),
+        PeerMsg::Decide { decide: m } => Ok(applies(alloc, at, from, m)?),
+        PeerMsg::Done { done: m } => Ok(done(alloc, at, m)?),
+        PeerMsg::PathAsk { file, parent } => path_ask(alloc, at, from, file, parent),
+        PeerMsg::PathGrant { no, file, path } => {
+            Ok(path_grant(alloc, at, from, *no, file, path)?)
+        }
+        PeerMsg::PathNo { file, why } => Ok(path_no(alloc, at, file, why)?),
+        PeerMsg::PathRecall { no } => Ok(path_recall(alloc, at, *no)?),
+        PeerMsg::PathRelease { no } => Ok(path_release(alloc, at, from, *no)?),
     }
 }
 

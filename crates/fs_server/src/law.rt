@@ -1,5 +1,5 @@
 //! Laws of a server's steps, over the definitions alone.
-ghost use Rattle.std.specs.Prelude.{◌≡◌, ℕ, true, false, List, [], ◌∷◌, map, None, Some, is_some};
+ghost use Rattle.std.specs.Prelude.{◌≡◌, ◌≤◌, ℕ, true, false, List, [], ◌∷◌, length, map, None, Some, is_some};
 ghost use Rattle.fs_field.specs.Table.{is_lease, is_lock_of};
 ghost use Rattle.fs_field.specs.declared.field.Field.{Field};
 ghost use Rattle.fs_field.specs.declared.lease_kind.LeaseKind.{LeaseKind};
@@ -8,6 +8,8 @@ ghost use Rattle.fs_field.specs.declared.used.Part.{Part};
 ghost use Rattle.fs_field.specs.declared.used.Use.{Use};
 ghost use Rattle.fs_field.specs.declared.vote.Vote.TheVariants.{Yes};
 ghost use Rattle.fs_ident.specs.In.{In};
+ghost use Rattle.fs_ident.specs.declared.actor.PathNo.{PathNo};
+ghost use Rattle.fs_ident.specs.declared.actor.Peer.{Peer};
 ghost use Rattle.fs_ident.specs.declared.actor.Peer.TheVariants as peer;
 ghost use Rattle.fs_ident.specs.declared.actor.Session.{Session};
 ghost use Rattle.fs_map.specs.Map.{longest};
@@ -15,21 +17,32 @@ ghost use Rattle.fs_model.specs.Asking.{home_of};
 ghost use Rattle.fs_msg.specs.declared.decide.Decide.{Decide};
 ghost use Rattle.fs_msg.specs.declared.end.End.TheVariants as end;
 ghost use Rattle.fs_msg.specs.declared.lead.Lead.{Lead};
+ghost use Rattle.fs_msg.specs.declared.msg.Msg.{Msg};
 ghost use Rattle.fs_msg.specs.declared.msg.Msg.TheVariants as msg;
-ghost use Rattle.fs_msg.specs.declared.peer_msg.PeerMsg.TheVariants.{Parcel};
+ghost use Rattle.fs_msg.specs.declared.peer_msg.PeerMsg.{PeerMsg};
+ghost use Rattle.fs_msg.specs.declared.peer_msg.PeerMsg.TheVariants.{Parcel, PathAsk};
 ghost use Rattle.fs_msg.specs.declared.prepare.Prepare.{Prepare};
+ghost use Rattle.fs_msg.specs.declared.refusal.Refusal.TheVariants as refusal;
 ghost use Rattle.fs_msg.specs.declared.server_note.ServerNote.TheVariants as note;
 ghost use Rattle.fs_msg.specs.declared.voted.Voted.{Voted};
 ghost use Rattle.fs_parcel.specs.Parcel.{move_refusal, parcel_of};
+ghost use Rattle.fs_path.specs.Leases.{PathLease, goes_into};
+ghost use Rattle.fs_path.specs.Returns.{is_needed};
+ghost use Rattle.fs_path.specs.declared.having.Having.{Having};
+ghost use Rattle.fs_path.specs.Tables.{first_in, holds, lease_of};
 ghost use Rattle.fs_record.specs.Applied.{records_after_all};
 ghost use Rattle.fs_record.specs.Fresh.{is_directory};
+ghost use Rattle.fs_record.specs.declared.led_end.Why.{Why};
 ghost use Rattle.fs_server.specs.Asks.{ask_from, asked_in};
 ghost use Rattle.fs_server.specs.Begins.{leader_with, parts_in, txn_of};
 ghost use Rattle.fs_server.specs.Counts.{vote_step};
-ghost use Rattle.fs_server.specs.Follows.{decide_step, prepare_step, vote_here};
-ghost use Rattle.fs_server.specs.Laws.{FreshComes, concluded, free_items, has_all, item_in, items_end, votes_here};
+ghost use Rattle.fs_server.specs.Follows.{decide_step, prepare_step, to_server, vote_here};
+ghost use Rattle.fs_server.specs.Laws.{CanBeGiven, FreshComes, IsAskedFirst, IsGivenOut, IsSentOn, concluded, free_items, has_all, item_in, items_end, votes_here};
 ghost use Rattle.fs_server.specs.LeadingLaws.{HasNextTxn};
 ghost use Rattle.fs_server.specs.Leads.{is_led, lead_refusal, lead_step, moved_why, refuses};
+ghost use Rattle.fs_server.specs.Moves.{move_step, peer_step};
+ghost use Rattle.fs_server.specs.ReturnLaws.{IsAskedBack, IsGivenBack, IsReturn, KeepsFiles, StaysForPaths, is_of_paths};
+ghost use Rattle.fs_server.specs.PathSteps.{asks_up, is_asking, path_ask_step, path_grant_step, path_no_step};
 ghost use Rattle.fs_server.specs.Rows.{rows_off_modes, rows_on_modes};
 ghost use Rattle.fs_server.specs.Server.{begun, is_mine, strange};
 ghost use Rattle.fs_server.specs.Step.{step};
@@ -83,16 +96,47 @@ pub fn parts_here_vote_at_once()
         concluded (decision (leader_with (txn_of s) by m (votes_here by m s)) None) by m s }
 {}
 
-/// A move with none of the refusals is made in its own event: a parcel with all that is below the prefix goes out.
+/// A move with none of the refusals is made in its own event, where no path goes over what is to go: a parcel with all that is below the
+/// prefix goes out.
 pub fn a_move_that_nothing_refuses_is_made()
     ensures { (s : Server) (now : ℕ) (prefix : List ℕ) (to : ℕ) →
-        move_refusal (begun now s).records (begun now s).rows s.map s.me prefix to None ≡ None →
+        move_refusal (begun now s).records (begun now s).rows s.map s.me prefix to
+        (first_in s.map s.me prefix s.paths) ≡ None →
         ((step s now (Move prefix to)).out.note ≡ note.Moves prefix to) ×
         ((step s now (Move prefix to)).out.send ≡ (
           peer.Server to,
           msg.Peer (Parcel
               (parcel_of (begun now s).records (begun now s).rows s.map s.me prefix)),
         ) ∷ []) }
+{}
+
+/// A move that is refused since the path of a lease goes over what is to go asks all such leases back: each that was given out, of the server
+/// that has it, and with it those that rest on one from another server; each from another server goes back to it, unless one that was given out
+/// rests on it. Nothing else is sent, and no record, no row and no server of a file changes.
+pub fn a_move_that_paths_refuse_asks_them_back()
+    ensures note { (prefix : List ℕ) (to : ℕ) (number : PathNo) (s : Server) →
+        StaysForPaths prefix to number s →
+        (move_step prefix to s).out.note ≡ note.Stays (refusal.Paths number) }
+    ensures asked { (prefix : List ℕ) (to : ℕ) (number : PathNo) (s : Server) →
+        StaysForPaths prefix to number s → (l : PathLease) → In l s.paths.issued →
+        goes_into s.map s.me prefix l ≡ true →
+        IsAskedBack l (move_step prefix to s).out.send }
+    ensures back { (prefix : List ℕ) (to : ℕ) (number : PathNo) (s : Server) →
+        StaysForPaths prefix to number s → (h : Having) → In h s.paths.held →
+        goes_into s.map s.me prefix (lease_of h) ≡ true →
+        is_needed s.paths.issued h ≡ false →
+        IsGivenBack (lease_of h) (move_step prefix to s).out.send }
+    ensures only { (prefix : List ℕ) (to : ℕ) (number : PathNo) (s : Server) →
+        StaysForPaths prefix to number s → (m : Peer × Msg) →
+        In m (move_step prefix to s).out.send → IsReturn prefix m s }
+    ensures kept { (prefix : List ℕ) (to : ℕ) (number : PathNo) (s : Server) →
+        StaysForPaths prefix to number s → KeepsFiles s (move_step prefix to s).server }
+{}
+
+/// What other servers say of path leases changes no record, no row and no server of a file.
+pub fn paths_change_no_file()
+    ensures { (from : ℕ) (m : PeerMsg) (s : Server) → is_of_paths m ≡ true →
+        KeepsFiles s (peer_step from m s).server }
 {}
 
 /// The vote on a part that another server asks for is that of the rows of both tables, where no path lease is given out.
@@ -148,4 +192,35 @@ pub fn the_last_part_unlocks_the_rows()
         is_prepared m.txn m.number s.prepared ≡ true →
         is_awaited m.txn (decide_step from m s).server.prepared ≡ false → (r : Row) →
         In r (decide_step from m s).server.rows → is_lock_of m.txn r.lock ≡ false }
+{}
+
+/// A path that is given out to another server is that of the directory, as it is known here, with the file behind it. Its number is the
+/// next one, the lease is among those given out, and nothing else changes. The directory is managed here and has the file as a child, and
+/// no transaction keeps the file.
+pub fn paths_are_given_as_they_are_known()
+    ensures known { (s : Server) (from : ℕ) (file dir : List ℕ) (number : PathNo) →
+        (path_ask_step from file dir s).out.note ≡ note.PathGrants number →
+        IsGivenOut from file dir number s (path_ask_step from file dir s) }
+    ensures child { (s : Server) (from : ℕ) (file dir : List ℕ) (number : PathNo) →
+        (path_ask_step from file dir s).out.note ≡ note.PathGrants number →
+        CanBeGiven file dir s }
+{}
+
+/// The path of a file is asked for once: a server that is asked for a path asks farther up for that of a file only where no such question
+/// stands, then one does, and it is one alone. A question that is sent on is the one that stands; a path that comes ends it, and so does a
+/// denial after which none is sent on.
+pub fn a_path_is_asked_for_once()
+    ensures first { (s : Server) (from to : ℕ) (file dir top up : List ℕ) →
+        In (to_server to (PathAsk top up)) (path_ask_step from file dir s).out.send →
+        IsAskedFirst top s (path_ask_step from file dir s).server }
+    ensures one { (s : Server) (file dir : List ℕ) → length (asks_up file dir s) ≤ 1 }
+    ensures on { (s : Server) (to : ℕ) (file asked up : List ℕ) (w : Why) →
+        In (to_server to (PathAsk asked up)) (path_no_step file w s).out.send →
+        IsSentOn asked file s (path_no_step file w s).server }
+    ensures comes { (s : Server) (from : ℕ) (number : PathNo) (file : List ℕ)
+        (path : List (List ℕ)) → holds number s.paths.held ≡ false →
+        is_asking file (path_grant_step from number file path s).server ≡ false }
+    ensures ends { (s : Server) (file : List ℕ) (w : Why) →
+        (path_no_step file w s).out.send ≡ [] →
+        is_asking file (path_no_step file w s).server ≡ false }
 {}

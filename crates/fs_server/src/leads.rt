@@ -69,7 +69,7 @@ fn refusal(alloc: Global, at: &AtReading<'_>, m: &Lead) -> Result<Option<Why>, M
 }
 
 /// The server that is said to manage the file.
-fn moved_why(alloc: Global, at: &AtReading<'_>, file: &FileId) -> Result<Why, Memory>
+pub(crate) fn moved_why(alloc: Global, at: &AtReading<'_>, file: &FileId) -> Result<Why, Memory>
     ensures { IfOk result (λ why. why ≡ moved_why (longest at.now.map file.now)) }
 {
     let (prefix, to) = at.map().owner(file);

@@ -27,6 +27,13 @@
 //!   prefix is written anew;
 //! - a parcel is copied, and so is the map, of which each place is looked for in the parcel. Each of its rows is
 //!   compared with all rows, and moves at most `r`; each of its records finds its place (log f);
+//! - a path lease that is asked back or comes back, and a move that is refused because of paths, cost what `fs_path` needs to find which leases
+//!   rest on which, once when it is planned and once when it is carried out, and a message for each that is told; a move finds the first
+//!   lease over what is to go before it is made;
+//! - a question for a path goes from the directory up by the records that are here (log f for each), once more over those that it
+//!   passed, and over the path leases from other servers; what it gives out is copied twice. A path that comes is compared with those
+//!   leases and finds a record (log f), and is copied once; a denial finds a record. Each looks through the questions that stand;
+//!   when it is carried out a path is put among the others by its number;
 //! - every event scans the rows once for those that are over, when it is carried out.
 #![tactic(auto)]
 
@@ -50,6 +57,11 @@ mod leads;
 mod moves;
 mod out;
 mod pairs;
+mod path_asks;
+mod path_change;
+mod path_changes;
+mod path_grants;
+mod path_returns;
 mod plan;
 mod reaps;
 mod recalls;
@@ -59,11 +71,12 @@ mod state;
 
 pub use event::ServerEvent;
 pub use law::{
-    a_move_that_nothing_refuses_is_made, a_part_is_decided_once, a_yes_has_its_rows_locked,
+    a_move_that_nothing_refuses_is_made, a_move_that_paths_refuse_asks_them_back,
+    a_part_is_decided_once, a_path_is_asked_for_once, a_yes_has_its_rows_locked,
     an_identifier_comes_behind_all_items, decided_effects_are_applied, items_are_given_in_order,
     operations_are_led_at_home, parts_here_vote_at_once, parts_of_others_are_voted_on,
-    the_last_part_unlocks_the_rows, what_is_not_admitted_changes_no_file,
-    what_is_not_yes_changes_nothing,
+    paths_are_given_as_they_are_known, paths_change_no_file, the_last_part_unlocks_the_rows,
+    what_is_not_admitted_changes_no_file, what_is_not_yes_changes_nothing,
 };
 pub use leading_law::{
     a_commit_splits_by_servers, a_rename_keeps_its_rows, a_session_is_told_when_all_is_done,

@@ -1,18 +1,20 @@
 //! What a server hands over to another, and what one hands over to it.
-ghost use Rattle.std.specs.Prelude.{◌≡◌, None, IfOk};
+ghost use Rattle.std.specs.Prelude.{◌≡◌, Some, IfOk};
 ghost use Rattle.std.specs.List.{list_all};
 ghost use Rattle.fs_map.specs.Map.{server_of};
 ghost use Rattle.fs_msg.specs.declared.server_note.ServerNote.TheVariants as note;
+ghost use Rattle.fs_path.specs.Tables.{first_in};
 ghost use Rattle.fs_parcel.specs.Parcel.{move_refusal};
 ghost use Rattle.fs_server.specs.Decided.{CanDecide, noted_only, stepped_by};
 ghost use Rattle.fs_server.specs.Grants.{IsReady};
-ghost use Rattle.fs_server.specs.Moves.{fits_here, hands_over, move_step, parcel_at, refusal_of, was_given};
+ghost use Rattle.fs_server.specs.Moves.{fits_here, hands_over, move_at, move_step, parcel_at, refusal_of, was_given};
 ghost use Rattle.fs_server.specs.Step.{AreNumbersLeft};
 
 use crate::at_reading::AtReading;
 use crate::change::Change;
 use crate::decide::{Decided, only, only_noted, strange};
 use crate::out::ServerOut;
+use crate::path_returns::ask_back;
 use fs_field::Row;
 use fs_ident::{FileId, List, Memory, Peer, Twin};
 use fs_msg::{Msg, PeerMsg, Refusal, ServerNote};
@@ -32,12 +34,12 @@ pub(crate) fn move_to(
     ensures can { IfOk result (λ d. CanDecide d at.now) }
 {
     match refused(alloc, at, prefix, to)? {
-        Some(why) => Ok(stays(alloc, why)),
+        Some(why) => stays(alloc, at, prefix, to, why),
         None => hands_over(alloc, at, prefix, to),
     }
 }
 
-/// Why it stays. There are no path leases.
+/// Why it stays.
 fn refused(
     alloc: Global,
     at: &AtReading<'_>,
@@ -45,7 +47,8 @@ fn refused(
     to: u8,
 ) -> Result<Option<MoveError>, Memory>
     ensures { IfOk result (λ why. why ≡
-        move_refusal at.now.records at.now.rows at.now.map at.now.me prefix.now to None) }
+        move_refusal at.now.records at.now.rows at.now.map at.now.me prefix.now to
+        (first_in at.now.map at.now.me prefix.now at.now.paths)) }
 {
     let (plain, modes) = at.rows().tables();
     refusal(
@@ -57,12 +60,30 @@ fn refused(
         at.me(),
         prefix,
         to,
-        None,
+        at.paths().first_in(prefix, at.map(), at.me()),
     )
 }
 
+/// It is noted why it stays. Where paths go over what is to go they are asked back.
+fn stays(
+    alloc: Global,
+    at: &AtReading<'_>,
+    prefix: &FileId,
+    to: u8,
+    why: MoveError,
+) -> Result<Decided, Memory>
+    requires { IsReady at.now }
+    ensures step { IfOk result (λ d. stepped_by d at.now ≡ move_at (Some why) prefix.now to at.now) }
+    ensures can { IfOk result (λ d. CanDecide d at.now) }
+{
+    match why {
+        MoveError::Paths { no } => ask_back(alloc, at, prefix, no),
+        why => Ok(only_stays(alloc, why)),
+    }
+}
+
 /// It is noted why it stays.
-fn stays(alloc: Global, why: MoveError) -> Decided
+fn only_stays(alloc: Global, why: MoveError) -> Decided
     ensures { result ≡ noted_only (note.Stays (refusal_of why)) }
 {
     let refusal = refusal_of(why);

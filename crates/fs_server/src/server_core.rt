@@ -16,6 +16,7 @@ use crate::state::Server;
 use fs_ident::{List, Memory, Twin};
 use fs_map::FileMap;
 use fs_msg::CoreError;
+use fs_path::Paths;
 use fs_record::Records;
 use std::alloc::Global;
 use std::marker::Model;
@@ -71,12 +72,15 @@ impl ServerCore {
                 prepared: List::new(alloc),
                 leading: List::new(alloc),
                 ending: List::new(alloc),
+                paths: Paths::new(alloc),
+                asking: List::new(alloc),
+                paths_given: 0,
             },
         })
     }
 
     /// What the event at the reading `now`, in milliseconds, comes to; nothing is changed. `Spent` where a lease,
-    /// a reap or a transaction would have a number above u64::MAX, and only there.
+    /// a reap, a transaction or a path lease would have a number above u64::MAX, and only there.
     pub fn plan(&self, alloc: Global, now: u64, ev: &ServerEvent) -> Result<Plan, CoreError>
         requires reading { now ≤ LATEST }
         requires told { CanBeTold ev.now }
@@ -105,7 +109,7 @@ impl ServerCore {
         commit(alloc, &mut self.server, now, change)
     }
 
-    /// One event at the reading `now`, in milliseconds. `Spent` where a lease, a reap or a transaction would have a
+    /// One event at the reading `now`, in milliseconds. `Spent` where a lease, a reap, a transaction or a path lease would have a
     /// number above u64::MAX, and only there. After an error the server is as it was.
     pub fn step(
         &mut self,

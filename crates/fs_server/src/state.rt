@@ -4,8 +4,9 @@ ghost use Rattle.fs_map.specs.Map.{IsMap};
 ghost use Rattle.fs_record.specs.Records.{AreRecords};
 
 use crate::all_rows::AllRows;
-use fs_ident::{List, Memory, Twin, copy_three, zip_ok};
+use fs_ident::{FileId, List, Memory, Twin, copy_three, copy_two, zip_ok};
 use fs_map::FileMap;
+use fs_path::Paths;
 use fs_record::Records;
 use fs_txn::{Ending, Leading, Ready};
 use std::alloc::Global;
@@ -37,6 +38,12 @@ pub(crate) struct Server {
     pub(crate) leading: List<Leading>,
     /// The transactions that it led, of which other servers have to tell that all is done.
     pub(crate) ending: List<Ending>,
+    /// The path leases that it gave out and has, and the files that transactions keep where they are.
+    pub(crate) paths: Paths,
+    /// The files whose paths it asked for, of which no answer came yet.
+    pub(crate) asking: List<FileId>,
+    /// How many path leases it gave out so far.
+    pub(crate) paths_given: u64,
 }
 
 impl Server {
@@ -68,6 +75,7 @@ impl Twin for Server {
         let tables = copy_three(alloc, &self.rows, &self.records, &self.map)?;
         let parts = copy_three(alloc, &self.prepared, &self.leading, &self.ending);
         let ((rows, records, map), (prepared, leading, ending)) = zip_ok(tables, parts)?;
+        let (paths, asking) = copy_two(alloc, &self.paths, &self.asking)?;
         Ok(Server {
             me: self.me,
             skew: self.skew,
@@ -82,6 +90,9 @@ impl Twin for Server {
             prepared,
             leading,
             ending,
+            paths,
+            asking,
+            paths_given: self.paths_given,
         })
     }
 

@@ -9,7 +9,8 @@ use Rattle.fs_schedule.specs.declared.event.Schedule.{Schedule}
 use Rattle.fs_schedule.specs.Spelling.{FitsHead}
 use Rattle.fs_serial.specs.Cluster.{Cluster}
 use Rattle.fs_serial.specs.Runs.{IsOrderly}
-use Rattle.fs_serial.proofs.WholeRuns.AnyReadings.{HoldsAnyhow, anyhow_later, anyhow_orderly, client_anyhow, first_anyhow, server_anyhow, told_as}
+use Rattle.fs_serial.proofs.WholeRuns.AnyReadings.{HoldsAnyhow, anyhow_later, anyhow_orderly, client_anyhow, first_anyhow, server_anyhow}
+use Rattle.fs_serial.proofs.WholeRuns.AnyReadings.{told_as}
 use Rattle.fs_serial.proofs.WholeRuns.ClusterClients.{places_later}
 use Rattle.fs_world.specs.Carried.{AllCarry}
 use Rattle.fs_world.specs.Order.{Tale, after, first_tale}
@@ -87,7 +88,15 @@ goes_all h (e ∷ es) r g = goes_all h es (more r e) (goes_on h e es r.world g)
 
 goes_first : (h : Head) (es : List Event) → FitsHead h → AllMayHappen h es → AllCarry (first_world h) es → Goes h es (first_world h)
 goes_first head.Direct es fits called carry = tt
-goes_first (head.Servers servers skew term) es fits called carry = record { greatest = 0; tale = first_tale; some = fits.0; holds = first_holds anyhow_laws servers skew term fits.0; called = called; carry = carry }
+goes_first (head.Servers servers skew term) es fits called carry = record {
+  greatest = 0;
+  tale = first_tale;
+  some = fits.0;
+  holds =
+      first_holds anyhow_laws servers skew term fits.0;
+  called = called;
+  carry = carry;
+}
 
 -- what sessions were told is of no matter
 untold : (replied : Session → List Item) (w : TheServed) → IsOrderly (cluster_of replied (parts_of w)) → IsOrderly (seen (λ x. []) w)
@@ -103,5 +112,7 @@ orderly (head.Servers servers skew term) (Served w) g =
 orderly head.Direct (Served w) g = absurd g
 orderly (head.Servers servers skew term) (Direct w) g = absurd g
 
-pub run_orderly : (s : Schedule) → FitsHead s.head → AllMayHappen s.head s.events → AllCarry (first_world s.head) s.events → IsOrderlyWorld (run_of s).world
-run_orderly s fits may carry = orderly s.head (run_of s).world (goes_all s.head s.events (first_run s.head) (goes_first s.head s.events fits may carry))
+pub run_orderly : (s : Schedule) → FitsHead s.head → AllMayHappen s.head s.events → AllCarry (first_world s.head) s.events
+    → IsOrderlyWorld (run_of s).world
+run_orderly s fits may carry =
+    orderly s.head (run_of s).world (goes_all s.head s.events (first_run s.head) (goes_first s.head s.events fits may carry))

@@ -22,7 +22,8 @@ use Rattle.fs_world.specs.Calls.{server_left, world_left}
 use Rattle.fs_world.specs.Linked.{Brings, FitsDown, IsLinked}
 use Rattle.fs_world.specs.Packets.{Packets}
 use Rattle.fs_world.specs.Planned.{IsAnswered, IsOwn, WasSent}
-use Rattle.fs_world.specs.Served.{SessionStates, ServerStepped, Stepped, at_server, core_step, server_step, server_step_at, server_receive_packet_at, with_server}
+use Rattle.fs_world.specs.Served.{SessionStates, ServerStepped, Stepped, at_server, core_step, server_step, server_step_at}
+use Rattle.fs_world.specs.Served.{server_receive_packet_at, with_server}
 use Rattle.fs_world.specs.declared.servers.world.Served.{Served}
 use Rattle.fs_world.proofs.AtSession.{linked_after}
 use Rattle.fs_world.proofs.Spending.{has_room}
@@ -30,7 +31,7 @@ use Rattle.fs_world.proofs.Linked.{server_linked, receive_packet_server_linked}
 use Rattle.fs_serial.proofs.Moves.Parcels.{parcel_flies}
 use Rattle.fs_world.specs.Linked.{IsParcelOf}
 use Rattle.fs_msg.specs.declared.peer_msg.PeerMsg.{PeerMsg}
-use Rattle.fs_msg.specs.declared.peer_msg.PeerMsg.TheVariants.{Parcel as OfParcel, Prepare, Vote, Decide, Done}
+use Rattle.fs_msg.specs.declared.peer_msg.PeerMsg.TheVariants.{Parcel as OfParcel}
 
 -- what is lent out of a list stands there
 pub item_there : {X : Type 0} (xs : List X) (k : ℕ) (x : X) → k < length xs → x ≡ slice_index_or xs k x → slice_get xs k ≡ Some x
@@ -47,19 +48,23 @@ served_by w k s post sessions in_flight journal packets = record w {
 }
 
 -- what an event leaves at a server, in the world
-pub served_at : (r : Result Outcome CoreError) (w : Served) (k : ℕ) (s : Core) (post : Links) (sessions : SessionStates) (in_flight : List InFlight) (journal : List Item) (packets : Packets) (x : ServerStepped)
-    → IfOk r (λ outcome. server_left outcome s post sessions in_flight journal packets ≡ x) → IfOk r (λ outcome. world_left outcome (served_by w k s post sessions in_flight journal packets) ≡ with_server k x w)
+pub served_at : (r : Result Outcome CoreError) (w : Served) (k : ℕ) (s : Core) (post : Links) (sessions : SessionStates)
+    (in_flight : List InFlight) (journal : List Item) (packets : Packets) (x : ServerStepped)
+    → IfOk r (λ outcome. server_left outcome s post sessions in_flight journal packets ≡ x)
+    → IfOk r (λ outcome. world_left outcome (served_by w k s post sessions in_flight journal packets) ≡ with_server k x w)
 served_at (Ok o) w k s post sessions in_flight journal packets x e = ap (λ (y : ServerStepped). with_server k y w) e
 served_at (Err o) w k s post sessions in_flight journal packets x e = tt
 
 -- the event of a server that there is
-pub step_there : (w : Served) (k : ℕ) (turn : Bool) (now : ℕ) (e : ServerEvent) (s : Core) (post : Links) → slice_get w.servers k ≡ Some s → slice_get w.posts k ≡ Some post
+pub step_there : (w : Served) (k : ℕ) (turn : Bool) (now : ℕ) (e : ServerEvent) (s : Core) (post : Links) → slice_get w.servers k ≡ Some s
+    → slice_get w.posts k ≡ Some post
     → server_step k turn now e w ≡ with_server k (core_step k turn None now e (at_server s post w)) w
 step_there w k turn now e s post there tied = ap₂ (λ (a : Option Core) (b : Option Links). server_step_at a b k turn now e w) there tied
 
 -- ## The links after it
 
-pub own_after : (r : Result Outcome CoreError) (w new : Served) (k : ℕ) (turn : Bool) (now : ℕ) (e : ServerEvent) (s : Core) (post : Links) → slice_get w.servers k ≡ Some s → slice_get w.posts k ≡ Some post
+pub own_after : (r : Result Outcome CoreError) (w new : Served) (k : ℕ) (turn : Bool) (now : ℕ) (e : ServerEvent) (s : Core) (post : Links)
+    → slice_get w.servers k ≡ Some s → slice_get w.posts k ≡ Some post
     → IsOwn (length w.servers) e → IsLinked w
     → IfOk r (λ outcome. world_left outcome new ≡ server_step k turn now e w) → OnOk r (FitsDown (step s now e).out.send)
     → OnOk r (IsLinked new)
@@ -71,31 +76,37 @@ own_after r w new k turn now e s post there tied own h is fits =
     is fits
 
 pub receive_packet_server_at : (w : Served) (k now : ℕ) (from : Peer) (p : Packet) → WasSent from (Server k) (Some p) w.packets.sent
-    → ((s : Core) (post : Links) → slice_get w.servers k ≡ Some s → slice_get w.posts k ≡ Some post → IsAnswered now from (post_accepted post from p).heard.joined (at_server s (post_accepted post from p).links w))
+    → ((s : Core) (post : Links) → slice_get w.servers k ≡ Some s → slice_get w.posts k ≡ Some post
+    → IsAnswered now from (post_accepted post from p).heard.joined (at_server s (post_accepted post from p).links w))
     → IsLinked w → IsLinked (server_receive_packet_at (slice_get w.servers k) (slice_get w.posts k) now k from p w).world
 receive_packet_server_at w k now from p x fits h = go (slice_get w.servers k) (slice_get w.posts k) refl refl
   where
-    go : (a : Option Core) (b : Option Links) → slice_get w.servers k ≡ a → slice_get w.posts k ≡ b → IsLinked (server_receive_packet_at a b now k from p w).world
+    go : (a : Option Core) (b : Option Links) → slice_get w.servers k ≡ a → slice_get w.posts k ≡ b
+        → IsLinked (server_receive_packet_at a b now k from p w).world
     go None b e f = h
     go (Some s) None e f = h
     go (Some s) (Some post) e f = receive_packet_server_linked w k s post now from p e f x (fits s post e f) h
 
-pub receive_packet_after : (r : Result Outcome CoreError) (w new : Served) (k now : ℕ) (from : Peer) (p : Packet) → WasSent from (Server k) (Some p) w.packets.sent
-    → ((s : Core) (post : Links) → slice_get w.servers k ≡ Some s → slice_get w.posts k ≡ Some post → OnOk r (IsAnswered now from (post_accepted post from p).heard.joined (at_server s (post_accepted post from p).links w)))
-    → IsLinked w → IfOk r (λ outcome. world_left outcome new ≡ server_receive_packet_at (slice_get w.servers k) (slice_get w.posts k) now k from p w) → OnOk r (IsLinked new)
-receive_packet_after (Ok o) w new k now from p x fits h is = subst IsLinked (sym (ap (λ (y : Stepped). y.world) is)) (receive_packet_server_at w k now from p x fits h)
+pub receive_packet_after : (r : Result Outcome CoreError) (w new : Served) (k now : ℕ) (from : Peer) (p : Packet)
+    → WasSent from (Server k) (Some p) w.packets.sent
+    → ((s : Core) (post : Links) → slice_get w.servers k ≡ Some s → slice_get w.posts k ≡ Some post
+    → OnOk r (IsAnswered now from (post_accepted post from p).heard.joined (at_server s (post_accepted post from p).links w)))
+    → IsLinked w
+    → IfOk r (λ outcome. world_left outcome new ≡ server_receive_packet_at (slice_get w.servers k) (slice_get w.posts k) now k from p
+    w) → OnOk r (IsLinked new)
+receive_packet_after (Ok o) w new k now from p x fits h is =
+    subst IsLinked (sym (ap (λ (y : Stepped). y.world) is)) (receive_packet_server_at w k now from p x fits h)
 receive_packet_after (Err o) w new k now from p x fits h is = tt
 
 -- ## Parcels on their way
 
-brought : (servers : ℕ) (sessions : SessionStates) (m : PeerMsg) (p : Parcel) → parcel_in m ≡ Some p → Brings servers sessions m → IsParcelOf sessions p
+brought : (servers : ℕ) (sessions : SessionStates) (m : PeerMsg) (p : Parcel) → parcel_in m ≡ Some p → Brings servers sessions m
+    → IsParcelOf sessions p
 brought servers sessions (OfParcel q) p e h = let same : q ≡ p = cc in subst (IsParcelOf sessions) same h
-brought servers sessions (Prepare m) p e h = absurd (cc)
-brought servers sessions (Vote m) p e h = absurd (cc)
-brought servers sessions (Decide m) p e h = absurd (cc)
-brought servers sessions (Done m) p e h = absurd (cc)
+brought servers sessions m p e h = absurd (cc)
 
-pub parcels_apart : (w : Served) → IsLinked w → (parcels : List Parcel) → parcels ≡ parcels_of w.in_flight → (p : Parcel) → In p parcels → AreEachRecords p.records
+pub parcels_apart : (w : Served) → IsLinked w → (parcels : List Parcel) → parcels ≡ parcels_of w.in_flight → (p : Parcel) → In p parcels
+    → AreEachRecords p.records
 parcels_apart w h parcels is p i =
     let q = parcel_flies p w.in_flight (subst (λ (ps : List Parcel). In p ps) is i) in
     let own : IsParcelOf w.sessions p = brought (length w.servers) w.sessions q.0.message p q.1.1 (h.in_flight q.0 q.1.0).brings in

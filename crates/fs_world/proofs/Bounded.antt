@@ -1,5 +1,6 @@
 -- No session has asked for more operations than there were events, so no counter comes to its end.
-use Rattle.std.proofs.Common.{◌≡◌, ℕ, ◌+◌, ◌-◌, ◌^◌, ◌<◌, ◌≤◌, Bool, true, false, if◌then◌else◌, List, [], ◌∷◌, length, refl, ap, sym, ◌∙◌, cond, arith}
+use Rattle.std.proofs.Common.{◌≡◌, ℕ, ◌+◌, ◌-◌, ◌^◌, ◌<◌, ◌≤◌, Bool, true, false, if◌then◌else◌, List, [], ◌∷◌, length, refl, ap, sym, ◌∙◌}
+use Rattle.std.proofs.Common.{cond, arith}
 use Rattle.std.specs.Prelude.{Option, Some, None, unwrap_or}
 use Rattle.std.specs.Ordering.{nat_cmp, eq_by_cmp}
 use Rattle.std.specs.Cmp.{nat_cmp_total}
@@ -40,7 +41,8 @@ join_bounded : (k : ℕ) (w : Direct) (s : Session) (c : Option ℕ) → AtMost 
 join_bounded k w s None h = put k w.asked s.0 0 (omega arith) h
 join_bounded k w s (Some n) h = more k w.asked h
 
-do_bounded : (k : ℕ) (w : Direct) (s : Session) (o : Op) (c : Option ℕ) → get w.asked s.0 ≡ c → AtMost k w.asked → AtMost (k + 1) (do_at c w s o).world.asked
+do_bounded : (k : ℕ) (w : Direct) (s : Session) (o : Op) (c : Option ℕ) → get w.asked s.0 ≡ c → AtMost k w.asked
+    → AtMost (k + 1) (do_at c w s o).world.asked
 do_bounded k w s o None e h = more k w.asked h
 do_bounded k w s o (Some n) e h = let here : n ≤ k = h s.0 n e in put k w.asked s.0 (n + 1) (omega arith) h
 
@@ -64,15 +66,18 @@ spent_at k w (Turn who) h lt = refl
 spent_at k w (Recall server field) h lt = refl
 spent_at k w (Move at prefix to) h lt = refl
 
-goes_by : (spent : Bool) (line : ℕ) (later : Option Stop) → spent ≡ false → later ≡ None → stop_at (if spent then Some Entries else None) (stop_after line [] later) ≡ None
+goes_by : (spent : Bool) (line : ℕ) (later : Option Stop) → spent ≡ false → later ≡ None
+    → stop_at (if spent then Some Entries else None) (stop_after line [] later) ≡ None
 goes_by true line later e n = absurd (cc)
 goes_by false line later e n = n
 
-none_spent : (k line : ℕ) (w : Direct) (es : List Event) → AtMost k w.asked → k + length es < 2 ^ 64 → stop_in (form.Direct w) line es ≡ None
+none_spent : (k line : ℕ) (w : Direct) (es : List Event) → AtMost k w.asked → k + length es < 2 ^ 64
+    → stop_in (form.Direct w) line es ≡ None
 none_spent k line w [] h lt = refl
 none_spent k line w (e ∷ es) h lt =
     let next : Direct = (step_of w e.what).world in
-    goes_by (is_spent w e.what) line (stop_in (form.Direct next) (line + 1) es) (spent_at k w e.what h (omega arith)) (none_spent (k + 1) (line + 1) next es (step_bounded k w e.what h) (omega arith))
+    goes_by (is_spent w e.what) line (stop_in (form.Direct next) (line + 1) es) (spent_at k w e.what h (omega arith))
+    (none_spent (k + 1) (line + 1) next es (step_bounded k w e.what h) (omega arith))
 
 no_count : (n : ℕ) → ◌≡◌ {A = Option ℕ} None (Some n) → n ≤ 0
 no_count n e = absurd (cc)

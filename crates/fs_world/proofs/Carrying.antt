@@ -15,7 +15,14 @@ linked_carries w h x i =
     let g = h.ties.between x i in
     let read = sent_read w x i h in
     let p : Packet = read.0 in
-    let of = packet_of w x.from x.to g.from.0 g.to.0 p g.from.1 g.to.1 (record { sent = x; among = i; sender = refl; addressee = refl; read = read.1 }) h in
+    let of = packet_of w x.from x.to g.from.0 g.to.0 p g.from.1 g.to.1 (record {
+      sent = x;
+      among = i;
+      sender = refl;
+      addressee =
+          refl;
+      read = read.1;
+    }) h in
     subst (λ (o : Option Packet). GivesFirst w x.from x.to o) (sym read.1)
     (subst (λ (o : Option Links). AreFirstOf (joined_at o x.from p) (between w x.from x.to)) (sym g.to.1)
     (first_of x.to x.from g.to.0 g.from.0 p w g.to.1 g.from.1 (other_way x.from x.to g.apart) of h.ties))

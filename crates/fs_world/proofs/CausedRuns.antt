@@ -25,15 +25,18 @@ use Rattle.fs_world.proofs.Said.{AreKnown, caused_append}
 
 -- ## The direct form says nothing of logs
 
-joins_silent : (before : List Said) (s : Session) (o : Option ℕ) (w : TheDirect) → AllCaused before (all_said None (join_at o w s).outcome.who (join_at o w s).outcome.notes)
+joins_silent : (before : List Said) (s : Session) (o : Option ℕ) (w : TheDirect)
+    → AllCaused before (all_said None (join_at o w s).outcome.who (join_at o w s).outcome.notes)
 joins_silent before s None w = tt
 joins_silent before s (Some n) w = tt
 
-does_silent : (before : List Said) (s : Session) (op : Op) (o : Option ℕ) (w : TheDirect) → AllCaused before (all_said None (do_at o w s op).outcome.who (do_at o w s op).outcome.notes)
+does_silent : (before : List Said) (s : Session) (op : Op) (o : Option ℕ) (w : TheDirect)
+    → AllCaused before (all_said None (do_at o w s op).outcome.who (do_at o w s op).outcome.notes)
 does_silent before s op None w = tt
 does_silent before s op (Some n) w = tt
 
-direct_silent : (before : List Said) (w : TheDirect) (what : What) → AllCaused before (all_said None (step_of w what).outcome.who (step_of w what).outcome.notes)
+direct_silent : (before : List Said) (w : TheDirect) (what : What)
+    → AllCaused before (all_said None (step_of w what).outcome.who (step_of w what).outcome.notes)
 direct_silent before w (Join s) = joins_silent before s (get w.asked s.0) w
 direct_silent before w (Do s o) = does_silent before s o (get w.asked s.0) w
 direct_silent before w what = tt
@@ -46,7 +49,8 @@ direct_caused (e ∷ es) before w =
 
 -- ## Every event of the servers form says what was caused
 
-served_caused : (es : List Event) (before : List Said) (w : TheServed) → AreKnown before w.sessions → AllCarry (Served w) es → AllCaused before (said_from (Served w) es)
+served_caused : (es : List Event) (before : List Said) (w : TheServed) → AreKnown before w.sessions → AllCarry (Served w) es
+    → AllCaused before (said_from (Served w) es)
 served_caused [] before w h carry = tt
 served_caused (e ∷ es) before w h carry =
     let says = step_says before w h e.reading carry.0 e.what in

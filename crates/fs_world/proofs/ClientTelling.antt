@@ -28,9 +28,9 @@ use Rattle.fs_msg.specs.declared.entry.Entry.{Entry}
 use Rattle.fs_msg.specs.declared.item.Item.{Item}
 use Rattle.fs_msg.specs.declared.note.Note.{Note}
 use Rattle.fs_msg.specs.declared.note.Note.TheVariants as note
-use Rattle.fs_msg.specs.declared.peer_msg.PeerMsg.TheVariants.{Done}
-use Rattle.fs_client.specs.Acts.{act_on, act_plan, answer_with, answers, ask_for, asks, full_one, hinted, led_with, need_file, stays, unless_led, with_id, worth}
-use Rattle.fs_client.specs.Answers.{answer_fits, ended_plan, fits, hear, led_plan, strange, told}
+use Rattle.fs_client.specs.Acts.{act_on, act_plan, answer_with, answers, ask_for, asks, full_one, hinted, led_with, need_file, stays}
+use Rattle.fs_client.specs.Acts.{unless_led, with_id, worth}
+use Rattle.fs_client.specs.Answers.{answer_fits, ended_plan, fits, hear, led_plan, strange, fitting_plan}
 use Rattle.fs_client.specs.Client.{begun}
 use Rattle.fs_client.specs.Led.{end_fits}
 use Rattle.fs_client.specs.Turns.{ending, idle, release_some, renew_some, returned, ship_some, turn_free, turn_plan}
@@ -86,7 +86,8 @@ module _ (s : Session) (o : Op) (c : ClientState) (own : c.session ≡ s) (down 
     (quiet : c.exchange ≡ None → due down ≡ []) (leads : Leads) where
   -- what the plan tells is what its change answers
   abbrev Tells : Plan Act → Type 0
-  Tells p = TellsOf s c.led (led_after p.ready.change c.led) down down (told_by s p.ready.change p.out.admitted) (replies_in s o (note.Act p.out.note ∷ [])) leads (leads_in s o (note.Act p.out.note ∷ []) leads)
+  Tells p = TellsOf s c.led (led_after p.ready.change c.led) down down (told_by s p.ready.change p.out.admitted)
+      (replies_in s o (note.Act p.out.note ∷ [])) leads (leads_in s o (note.Act p.out.note ∷ []) leads)
 
   full_tells : (needs : List Need) → Tells (full_one needs c)
   full_tells [] = tells_none refl refl refl refl refl
@@ -95,10 +96,11 @@ module _ (s : Session) (o : Op) (c : ClientState) (own : c.session ≡ s) (down 
 
   ask_tells : (needs some : List Need) → Tells (ask_for needs some c)
   ask_tells needs [] = full_tells needs
-  ask_tells needs (n ∷ ns) = elim (is_some c.exchange) as (λ b. Tells (cond b (stays (act.Busy busy.Exchange) c) (asks (hinted c (need_file n)) (n ∷ ns) c))) [
-    | true ↦ tells_none refl refl refl refl refl
-    | false ↦ tells_none refl refl refl refl refl
-  ]
+  ask_tells needs (n ∷ ns) =
+      elim (is_some c.exchange) as (λ b. Tells (cond b (stays (act.Busy busy.Exchange) c) (asks (hinted c (need_file n)) (n ∷ ns) c))) [
+        | true ↦ tells_none refl refl refl refl refl
+        | false ↦ tells_none refl refl refl refl refl
+      ]
 
   -- the reply to it
   abbrev told_reply : Reply → ReplyGiven
@@ -108,10 +110,24 @@ module _ (s : Session) (o : Op) (c : ClientState) (own : c.session ≡ s) (down 
   as_asked r i op_is reply_is = record { op = subst (SameButId o) (sym op_is) (same_id c.view c.last o r); reply = reply_is }
 
   end_tells : c.led ≡ None → (r : Reply) (p : Plan Act) → AnswerEnds o r c p → Tells p
-  end_tells none r p (as_entry t) = let i : Item = record { by = Client s; n = c.next; op = with_id c.view c.last o r; reply = r } in tells_one none none i (told_reply r) refl refl refl (record { by = refl; n = refl }) (as_asked r i refl refl) refl
-  end_tells none r p (as_read t n e) = let i : Item = record { by = Client c.session; n = c.next; op = with_id c.view c.last o r; reply = r } in tells_one none none i (told_reply r) refl refl refl (record { by = ap Client own; n = refl }) (as_asked r i refl refl) refl
-  end_tells none r p (as_move t n e) = let i : Item = record { by = Client c.session; n = c.next; op = with_id c.view c.last o r; reply = r } in tells_one none none i (told_reply r) refl refl refl (record { by = ap Client own; n = refl }) (as_asked r i refl refl) refl
-  end_tells none r p (as_led t l x e moved k) = tells_led none (led_with o r moved c) refl (quiet_comes s (Some (led_with o r moved c)) down (quiet x)) refl refl refl
+  end_tells none r p (as_entry t) = let i : Item = record { by = Client s; n = c.next; op = with_id c.view c.last o r; reply = r } in
+      tells_one none none i (told_reply r) refl refl refl (record { by = refl; n = refl }) (as_asked r i refl refl) refl
+  end_tells none r p (as_read t n e) = let i : Item = record {
+    by = Client c.session;
+    n = c.next;
+    op = with_id c.view c.last o r;
+    reply =
+        r;
+  } in tells_one none none i (told_reply r) refl refl refl (record { by = ap Client own; n = refl }) (as_asked r i refl refl) refl
+  end_tells none r p (as_move t n e) = let i : Item = record {
+    by = Client c.session;
+    n = c.next;
+    op = with_id c.view c.last o r;
+    reply =
+        r;
+  } in tells_one none none i (told_reply r) refl refl refl (record { by = ap Client own; n = refl }) (as_asked r i refl refl) refl
+  end_tells none r p (as_led t l x e moved k) =
+      tells_led none (led_with o r moved c) refl (quiet_comes s (Some (led_with o r moved c)) down (quiet x)) refl refl refl
   end_tells none r p (put_off what) = tells_none refl refl refl refl refl
   end_tells none r p not_told = tells_none refl refl refl refl refl
 
@@ -129,7 +145,9 @@ module _ (s : Session) (o : Op) (c : ClientState) (own : c.session ≡ s) (down 
 
 pub act_tells : (s : Session) (o : Op) (c : ClientState) (now : ℕ) → c.session ≡ s
     → (down : List Answer) → (c.exchange ≡ None → due down ≡ []) → (leads : Leads)
-    → TellsOf s c.led (led_after (act_plan c now o).ready.change c.led) down down (told_by s (act_plan c now o).ready.change (act_plan c now o).out.admitted) (replies_in s o (note.Act (act_plan c now o).out.note ∷ [])) leads (leads_in s o (note.Act (act_plan c now o).out.note ∷ []) leads)
+    → TellsOf s c.led (led_after (act_plan c now o).ready.change c.led) down down
+    (told_by s (act_plan c now o).ready.change (act_plan c now o).out.admitted)
+    (replies_in s o (note.Act (act_plan c now o).out.note ∷ [])) leads (leads_in s o (note.Act (act_plan c now o).out.note ∷ []) leads)
 act_tells s o c now own down quiet leads = on_tells s o (begun now c) own down quiet leads c.over
 
 -- ## What a client hears
@@ -196,7 +214,11 @@ module _ (s : Session) (k : ℕ) (raw : ClientState) (now : ℕ) (up : List Clie
   ended_tells d is (end.Done r) due_is = tells_done refl (led_item s d r)
       (record { session = s; n = d.entry.n; asked = d.entry.op; reply = r })
       (ap (λ o. items_with s o coming) is ∙ one_comes s d coming (TheAnswer.Led (end.Done r)) due_is) refl
-      (ap (λ o. ended_in s o (note.Client (client_note.Led d.entry.n r) ∷ [])) (asked d is)) refl (record { by = refl; n = refl }) (record { op = same_op d.entry.op; reply = refl }) refl
+      (ap (λ o. ended_in s o (note.Client (client_note.Led d.entry.n r) ∷ [])) (asked d is)) refl (record {
+        by = refl;
+        n =
+            refl;
+      }) (record { op = same_op d.entry.op; reply = refl }) refl
   ended_tells d is (end.Ended lease until at) due_is = tells_freed refl
       (ap (λ o. items_with s o coming) is ∙ one_comes s d coming (TheAnswer.Led (end.Ended lease until at)) due_is) refl
       (quiet_note s (leads s) _ refl) refl
@@ -209,18 +231,50 @@ module _ (s : Session) (k : ℕ) (raw : ClientState) (now : ℕ) (up : List Clie
   led_tells None is e f due_is = absurd (cc)
   led_tells (Some d) is e f due_is = ended_tells d is e due_is
 
-  pub hear_tells : (a : Answer) → find (is_with k) down ≡ Some (k, a) → (is_recall a ≡ false → asked_server raw.exchange ≡ Some k) → Hears (hear k a c)
-  hear_tells (TheAnswer.Granted gs fresh e) f at = elim (fits k c.exchange (TheAnswer.Granted gs fresh e) c) as (λ b. Hears (cond b (told (TheAnswer.Granted gs fresh e) c) (strange c))) [ true ↦ tells_none refl (still_comes _ (λ d. refl) f) refl (quiet_note s (leads s) _ refl) refl | false ↦ tells_none refl (still_comes _ (λ d. refl) f) refl (quiet_note s (leads s) _ refl) refl ]
-  hear_tells (TheAnswer.Renewed ends e) f at = elim (fits k c.exchange (TheAnswer.Renewed ends e) c) as (λ b. Hears (cond b (told (TheAnswer.Renewed ends e) c) (strange c))) [ true ↦ tells_none refl (still_comes _ (λ d. refl) f) refl (quiet_note s (leads s) _ refl) refl | false ↦ tells_none refl (still_comes _ (λ d. refl) f) refl (quiet_note s (leads s) _ refl) refl ]
-  hear_tells (TheAnswer.Released count e) f at = elim (fits k c.exchange (TheAnswer.Released count e) c) as (λ b. Hears (cond b (told (TheAnswer.Released count e) c) (strange c))) [ true ↦ tells_none refl (still_comes _ (λ d. refl) f) refl (quiet_note s (leads s) _ refl) refl | false ↦ tells_none refl (still_comes _ (λ d. refl) f) refl (quiet_note s (leads s) _ refl) refl ]
-  hear_tells (TheAnswer.Shipped count e) f at = elim (fits k c.exchange (TheAnswer.Shipped count e) c) as (λ b. Hears (cond b (told (TheAnswer.Shipped count e) c) (strange c))) [ true ↦ tells_none refl (still_comes _ (λ d. refl) f) refl (quiet_note s (leads s) _ refl) refl | false ↦ tells_none refl (still_comes _ (λ d. refl) f) refl (quiet_note s (leads s) _ refl) refl ]
-  hear_tells (TheAnswer.Recall number) f at = elim (fits k c.exchange (TheAnswer.Recall number) c) as (λ b. Hears (cond b (told (TheAnswer.Recall number) c) (strange c))) [ true ↦ tells_none refl (still_comes _ (λ d. refl) f) refl (quiet_note s (leads s) _ refl) refl | false ↦ tells_none refl (still_comes _ (λ d. refl) f) refl (quiet_note s (leads s) _ refl) refl ]
+  pub hear_tells : (a : Answer) → find (is_with k) down ≡ Some (k, a) → (is_recall a ≡ false → asked_server raw.exchange ≡ Some k)
+      → Hears (hear k a c)
+  hear_tells (TheAnswer.Granted gs fresh e) f at = elim (fits k c.exchange (TheAnswer.Granted gs fresh e) c) as (λ b.
+      Hears (cond b (fitting_plan (TheAnswer.Granted gs fresh e) c) (strange c))) [
+        | true ↦ tells_none refl (still_comes _ (λ d. refl) f)
+            refl (quiet_note s (leads s) _ refl) refl
+        | false ↦ tells_none refl (still_comes _ (λ d. refl) f) refl (quiet_note s (leads s) _ refl) refl
+      ]
+  hear_tells (TheAnswer.Renewed ends e) f at = elim (fits k c.exchange (TheAnswer.Renewed ends e) c) as (λ b.
+      Hears (cond b (fitting_plan (TheAnswer.Renewed ends e) c) (strange c))) [
+        | true ↦ tells_none refl (still_comes _ (λ d. refl) f) refl
+            (quiet_note s (leads s) _ refl) refl
+        | false ↦ tells_none refl (still_comes _ (λ d. refl) f) refl (quiet_note s (leads s) _ refl)
+            refl
+      ]
+  hear_tells (TheAnswer.Released count e) f at = elim (fits k c.exchange (TheAnswer.Released count e) c) as (λ b.
+      Hears (cond b (fitting_plan (TheAnswer.Released count e) c) (strange c))) [
+        | true ↦ tells_none refl (still_comes _ (λ d. refl) f) refl
+            (quiet_note s (leads s) _ refl) refl
+        | false ↦ tells_none refl (still_comes _ (λ d. refl) f) refl (quiet_note s (leads s) _ refl)
+            refl
+      ]
+  hear_tells (TheAnswer.Shipped count e) f at = elim (fits k c.exchange (TheAnswer.Shipped count e) c) as (λ b.
+      Hears (cond b (fitting_plan (TheAnswer.Shipped count e) c) (strange c))) [
+        | true ↦ tells_none refl (still_comes _ (λ d. refl) f) refl
+            (quiet_note s (leads s) _ refl) refl
+        | false ↦ tells_none refl (still_comes _ (λ d. refl) f) refl (quiet_note s (leads s) _ refl)
+            refl
+      ]
+  hear_tells (TheAnswer.Recall number) f at = elim (fits k c.exchange (TheAnswer.Recall number) c) as (λ b.
+      Hears (cond b (fitting_plan (TheAnswer.Recall number) c) (strange c))) [
+        | true ↦ tells_none refl (still_comes _ (λ d. refl) f) refl
+            (quiet_note s (leads s) _ refl) refl
+        | false ↦ tells_none refl (still_comes _ (λ d. refl) f) refl (quiet_note s (leads s) _ refl)
+            refl
+      ]
   hear_tells (TheAnswer.Led e) f at =
-      let there : In (TheAnswer.Led e) (messages down) = In-mapped (λ (m : ℕ × Answer). m.1) (k, TheAnswer.Led e) down (found (is_with k) down (k, TheAnswer.Led e) f).0 in
+      let there : In (TheAnswer.Led e) (messages down) =
+      In-mapped (λ (m : ℕ × Answer). m.1) (k, TheAnswer.Led e) down (found (is_with k) down (k, TheAnswer.Led e) f).0 in
       let q = led_hears e raw.exchange one
       (In-kept (λ (b : Answer). not (is_recall b)) (TheAnswer.Led e) coming
       (In-behind (TheAnswer.Led e) owed (messages down) there) refl) (at refl) in
-      subst (λ b. Hears (cond b (told (TheAnswer.Led e) c) (strange c))) (sym q.1) (led_tells raw.led refl e (led_end_fits k c.exchange e c q.1) q.0)
+      subst (λ b. Hears (cond b (fitting_plan (TheAnswer.Led e) c) (strange c))) (sym q.1)
+      (led_tells raw.led refl e (led_end_fits k c.exchange e c q.1) q.0)
 
 -- ## Turns
 
@@ -244,8 +298,16 @@ module _ (s : Session) (raw : ClientState) (now : ℕ) (down : List Answer) (lea
   ships_tell (e ∷ es) = tells_none refl refl refl refl refl
 
   free_tells : Turns (turn_free began)
-  free_tells = elim (not (is_empty began.log) && not (is_some began.over)) as (λ b. Turns (cond b (ship_some began.log began) (release_some (returned began.view) began))) [ true ↦ ships_tell began.log | false ↦ releases_tell (returned began.view) ]
+  free_tells = elim (not (is_empty began.log) && not (is_some began.over)) as (λ b.
+      Turns (cond b (ship_some began.log began) (release_some (returned began.view) began))) [
+        | true ↦ ships_tell began.log
+        | false ↦ releases_tell (returned began.view)
+      ]
 
   -- a turn tells nothing
   pub turn_tells : Turns (turn_plan raw now)
-  turn_tells = elim (is_some began.exchange) as (λ b. Turns (cond b (idle began) (turn_free began))) [ true ↦ tells_none refl refl refl refl refl | false ↦ free_tells ]
+  turn_tells = elim (is_some began.exchange) as (λ b. Turns (cond b (idle began) (turn_free began))) [
+    | true ↦ tells_none refl refl refl
+        refl refl
+    | false ↦ free_tells
+  ]

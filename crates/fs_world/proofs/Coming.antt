@@ -1,5 +1,6 @@
 -- The reply that is on its way of what a server led.
-use Rattle.std.proofs.Common.{◌≡◌, ◌∙◌, ℕ, zero, suc, ◌==◌, Bool, true, false, List, [], ◌∷◌, ◌++◌, append-nil, append_assoc, cond, refl, ap, sym}
+use Rattle.std.proofs.Common.{◌≡◌, ◌∙◌, ℕ, zero, suc, ◌==◌, Bool, true, false, List, [], ◌∷◌, ◌++◌, append-nil, append_assoc, cond, refl}
+use Rattle.std.proofs.Common.{ap, sym}
 use Rattle.std.specs.Prelude.{Option, Some, None}
 use Rattle.std.specs.List.{find}
 use Rattle.fs_ident.specs.declared.actor.Peer.{Peer}
@@ -30,9 +31,11 @@ pub none_comes : (x : Session) (ms : List Answer) → items_with x None ms ≡ [
 none_comes x [] = refl
 none_comes x (m ∷ ms) = none_comes x ms
 
-pub more_come : (x : Session) (led : Option Led) (ms more : List Answer) → items_with x led (ms ++ more) ≡ items_with x led ms ++ items_with x led more
+pub more_come : (x : Session) (led : Option Led) (ms more : List Answer)
+    → items_with x led (ms ++ more) ≡ items_with x led ms ++ items_with x led more
 more_come x led [] more = refl
-more_come x led (m ∷ ms) more = ap (λ is. item_with x led m ++ is) (more_come x led ms more) ∙ sym (append_assoc (item_with x led m) (items_with x led ms) (items_with x led more))
+more_come x led (m ∷ ms) more = ap (λ is. item_with x led m ++ is) (more_come x led ms more)
+    ∙ sym (append_assoc (item_with x led m) (items_with x led ms) (items_with x led more))
 
 -- nor where no answer is due
 pub quiet_comes : (x : Session) (led : Option Led) (ms : List Answer) → due ms ≡ [] → items_with x led ms ≡ []
@@ -45,14 +48,17 @@ quiet_comes x (Some l) (Released count t ∷ ms) e = absurd (cc)
 quiet_comes x (Some l) (Shipped count t ∷ ms) e = absurd (cc)
 quiet_comes x (Some l) (Ended t ∷ ms) e = absurd (cc)
 
-one_then : (x : Session) (l : Led) (b a : Answer) (ms : List Answer) → b ∷ due ms ≡ a ∷ [] → item_with x (Some l) b ++ items_with x (Some l) ms ≡ item_with x (Some l) a
+one_then : (x : Session) (l : Led) (b a : Answer) (ms : List Answer) → b ∷ due ms ≡ a ∷ []
+    → item_with x (Some l) b ++ items_with x (Some l) ms ≡ item_with x (Some l) a
 one_then x l b a ms e =
     let same : b ≡ a = cc in
     let rest : due ms ≡ [] = cc in
-    ap (λ is. item_with x (Some l) b ++ is) (quiet_comes x (Some l) ms rest) ∙ append-nil (item_with x (Some l) b) ∙ ap (item_with x (Some l)) same
+    ap (λ is. item_with x (Some l) b ++ is) (quiet_comes x (Some l) ms rest) ∙ append-nil (item_with x (Some l) b)
+    ∙ ap (item_with x (Some l)) same
 
 -- the one that is due brings it
-pub one_comes : (x : Session) (l : Led) (ms : List Answer) (a : Answer) → due ms ≡ a ∷ [] → items_with x (Some l) ms ≡ item_with x (Some l) a
+pub one_comes : (x : Session) (l : Led) (ms : List Answer) (a : Answer) → due ms ≡ a ∷ []
+    → items_with x (Some l) ms ≡ item_with x (Some l) a
 one_comes x l [] a e = absurd (cc)
 one_comes x l (Recall n ∷ ms) a e = one_comes x l ms a e
 one_comes x l (Granted gs fresh t ∷ ms) a e = one_then x l (Granted gs fresh t) a ms e
@@ -62,12 +68,15 @@ one_comes x l (Shipped count t ∷ ms) a e = one_then x l (Shipped count t) a ms
 one_comes x l (Ended t ∷ ms) a e = one_then x l (Ended t) a ms e
 
 -- what brings nothing comes, and the same is on its way
-pub heard_comes : (x : Session) (led : Option Led) (k : ℕ) (a : Answer) (ms : List (ℕ × Answer)) → find (is_with k) ms ≡ Some (k, a) → item_with x led a ≡ [] → items_with x led (messages (without_first (is_with k) ms)) ≡ items_with x led (messages ms)
+pub heard_comes : (x : Session) (led : Option Led) (k : ℕ) (a : Answer) (ms : List (ℕ × Answer)) → find (is_with k) ms ≡ Some (k, a)
+    → item_with x led a ≡ [] → items_with x led (messages (without_first (is_with k) ms)) ≡ items_with x led (messages ms)
 heard_comes x led k a [] f e = refl
-heard_comes x led k a (m ∷ ms) f e = elim (is_with k m) as (λ b. cond b (Some m) (find (is_with k) ms) ≡ Some (k, a) → items_with x led (messages (cond b ms (m ∷ without_first (is_with k) ms))) ≡ item_with x led m.1 ++ items_with x led (messages ms)) [
-  | true ↦ λ g. let same : m ≡ (k, a) = cc in ap (λ is. is ++ items_with x led (messages ms)) (sym (ap (λ (n : ℕ × Answer). item_with x led n.1) same ∙ e))
-  | false ↦ λ g. ap (λ is. item_with x led m.1 ++ is) (heard_comes x led k a ms g e)
-] f
+heard_comes x led k a (m ∷ ms) f e = elim (is_with k m) as (λ b. cond b (Some m) (find (is_with k) ms) ≡ Some (k, a)
+    → items_with x led (messages (cond b ms (m ∷ without_first (is_with k) ms))) ≡ item_with x led m.1 ++ items_with x led (messages ms)) [
+      | true ↦ λ g. let same : m ≡ (k, a) = cc in
+          ap (λ is. is ++ items_with x led (messages ms)) (sym (ap (λ (n : ℕ × Answer). item_with x led n.1) same ∙ e))
+      | false ↦ λ g. ap (λ is. item_with x led m.1 ++ is) (heard_comes x led k a ms g e)
+    ] f
 
 -- ## What a server sends
 
@@ -85,11 +94,13 @@ more_again l a b = ap (λ d. let m : Lines = record l { down = d } in m) (append
 none_more : (l : Lines) → with_more [] l ≡ l
 none_more l = ap (λ d. let m : Lines = record l { down = d } in m) (append-nil l.down)
 
-answer_line : (k : ℕ) (a : Answer) (l : Lines) (b : Bool) → cond b (record l { down = l.down ++ (k, a) ∷ [] }) l ≡ with_more (cond b ((k, a) ∷ []) []) l
+answer_line : (k : ℕ) (a : Answer) (l : Lines) (b : Bool)
+    → cond b (record l { down = l.down ++ (k, a) ∷ [] }) l ≡ with_more (cond b ((k, a) ∷ []) []) l
 answer_line k a l true = refl
 answer_line k a l false = sym (none_more l)
 
-pub sent_line : (k : ℕ) (send : List (Peer × Msg)) (lines : Session → Lines) (x : Session) → with_sent k send lines x ≡ with_more (answers_to k x send) (lines x)
+pub sent_line : (k : ℕ) (send : List (Peer × Msg)) (lines : Session → Lines) (x : Session)
+    → with_sent k send lines x ≡ with_more (answers_to k x send) (lines x)
 sent_line k [] lines x = sym (none_more (lines x))
 sent_line k ((OfSession to, msg.Answer a) ∷ rest) lines x =
     sent_line k rest (with_answer k to a lines) x ∙ ap (with_more (answers_to k x rest)) (answer_line k a (lines x) (to.0 == x.0))
@@ -100,11 +111,17 @@ sent_line k ((OfServer to, m) ∷ rest) lines x = sent_line k rest lines x
 
 -- the client and the answers stay where a question is taken
 taken_at : (k : ℕ) (by x : Session) (lines : Session → Lines) (b : Bool) → (by.0 == x.0) ≡ b
-    → (up : List (ℕ × ClientMsg)) × (cond b (record (lines by) { up = without_first (is_with k) (lines by).up }) (lines x) ≡ record (lines x) { up = up })
-taken_at k by x lines true e = (without_first (is_with k) (lines x).up, ap (λ (y : Session). let l : Lines = record (lines y) { up = without_first (is_with k) (lines y).up } in l) (one_session by x e))
+    → (up : List (ℕ × ClientMsg)) × (cond b (record (lines by) { up = without_first (is_with k) (lines by).up })
+    (lines x) ≡ record (lines x) { up = up })
+taken_at k by x lines true e = (
+  without_first (is_with k) (lines x).up,
+  ap (λ (y : Session). let l : Lines =
+      record (lines y) { up = without_first (is_with k) (lines y).up } in l) (one_session by x e),
+)
 taken_at k by x lines false e = ((lines x).up, refl)
 
-pub taken_line : (k : ℕ) (e : ServerEvent) (lines : Session → Lines) (x : Session) → (up : List (ℕ × ClientMsg)) × (without_question k e lines x ≡ record (lines x) { up = up })
+pub taken_line : (k : ℕ) (e : ServerEvent) (lines : Session → Lines) (x : Session)
+    → (up : List (ℕ × ClientMsg)) × (without_question k e lines x ≡ record (lines x) { up = up })
 taken_line k (FromClient by m) lines x = taken_at k by x lines (by.0 == x.0) refl
 taken_line k (FromPeer from m) lines x = ((lines x).up, refl)
 taken_line k Turn lines x = ((lines x).up, refl)

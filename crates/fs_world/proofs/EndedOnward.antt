@@ -89,7 +89,8 @@ pub record IsAlike (x y : ServerStepped) : Type 0 where
   pub server : x.server ≡ y.server
   pub in_flight : x.in_flight ≡ y.in_flight
 
-pub all_alike : (k now : ℕ) (es : List ServerEvent) (x y : ServerStepped) → IsAlike x y → IsAlike (taking_all k now es x) (taking_all k now es y)
+pub all_alike : (k now : ℕ) (es : List ServerEvent) (x y : ServerStepped) → IsAlike x y
+    → IsAlike (taking_all k now es x) (taking_all k now es y)
 all_alike k now [] x y h = h
 all_alike k now (e ∷ es) x y h = all_alike k now es (taking k now e x) (taking k now e y) (record {
   server = ap (λ (s : Core). (step s now e).server) h.server;
@@ -102,7 +103,8 @@ pub record IsOnward (p : Parts) (k : ℕ) (x y : ServerStepped) : Type 0 where
   pub still : (by : Session) (number : LeaseNo) (end now : ℕ) → Ended (parts_at p k x) by number end now
       → Ended (parts_at p k y) by number end now
 
-module _ (laws : SerialLaws) (count skew greatest : ℕ) (tale : Tale) (p : Parts) (x : ServerStepped) (k : ℕ) (c : Core) (at : slice_get p.servers k ≡ Some c)
+module _ (laws : SerialLaws) (count skew greatest : ℕ) (tale : Tale) (p : Parts) (x : ServerStepped) (k : ℕ) (c : Core)
+    (at : slice_get p.servers k ≡ Some c)
     (h : Holds (timed laws) count skew greatest tale (parts_at p k x)) (now : ℕ) (within : greatest ≤ now + skew) (i : ℕ) (e : ServerEvent)
     (q : IsMessage k i e x.in_flight) where
   abbrev seen : Cluster
@@ -119,7 +121,8 @@ module _ (laws : SerialLaws) (count skew greatest : ℕ) (tale : Tale) (p : Part
 
   -- after it
   module _ (by : Session) (number : LeaseNo) (end reading : ℕ) where
-    pub ended_then : WasEnded (after_step k told (step x.server now told) seen) by number end reading → Ended (parts_at p k then) by number end reading
+    pub ended_then : WasEnded (after_step k told (step x.server now told) seen) by number end reading
+        → Ended (parts_at p k then) by number end reading
     ended_then w =
         subst (λ (f : ServerEvent). Ended (parts_at p k (taking k now f (without_message k (Server i) x))) by number end reading) (sym q.is)
         (subst (λ (servers : List Core).
@@ -150,8 +153,10 @@ module _ (laws : SerialLaws) (count skew greatest : ℕ) (tale : Tale) (p : Part
         (whatever_told (λ y. []) h.replied (parts_at p k x) by number end reading w));
   }
 
-pub all_onward : (es : List ServerEvent) (laws : SerialLaws) (count skew greatest : ℕ) (tale : Tale) (p : Parts) (x : ServerStepped) (k : ℕ) (c : Core)
-    (at : slice_get p.servers k ≡ Some c) → Holds (timed laws) count skew greatest tale (parts_at p k x) → (now : ℕ) → greatest ≤ now + skew → (i : ℕ)
+pub all_onward : (es : List ServerEvent) (laws : SerialLaws) (count skew greatest : ℕ) (tale : Tale) (p : Parts) (x : ServerStepped)
+    (k : ℕ) (c : Core)
+    (at : slice_get p.servers k ≡ Some c) → Holds (timed laws) count skew greatest tale (parts_at p k x) → (now : ℕ)
+    → greatest ≤ now + skew → (i : ℕ)
     → AreNext k (Server i) es x.sessions x.in_flight → IsOnward p k x (steps k (Server i) now es x)
 all_onward [] laws count skew greatest tale p x k c at h now within i next =
     record { led = λ by. refl; still = λ by number end reading w. w }

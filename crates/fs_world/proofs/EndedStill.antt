@@ -29,7 +29,8 @@ use Rattle.fs_server.specs.Step.{event_step, step}
 use Rattle.fs_server.specs.declared.event.ServerEvent.{ServerEvent}
 use Rattle.fs_server.specs.declared.event.ServerEvent.TheVariants.{FromPeer}
 use Rattle.fs_server.specs.declared.state.Server.{Server}
-use Rattle.fs_serial.specs.Cluster.{Cluster, IsThere, after_step, in_flight_from, is_between, parcel_in, parcels_of, without_first, without_question}
+use Rattle.fs_serial.specs.Cluster.{Cluster, IsThere, after_step, in_flight_from, is_between, parcel_in, parcels_of, without_first}
+use Rattle.fs_serial.specs.Cluster.{without_question}
 use Rattle.fs_serial.specs.EndedLeases.{WasEnded}
 use Rattle.fs_serial.specs.Seen.{ClusterHolds}
 use Rattle.fs_serial.proofs.Lists.SetAt.{get_here, set_twice}
@@ -37,7 +38,8 @@ use Rattle.fs_serial.proofs.Returns.Lapsing.{begun_at, keep, there_begun}
 use Rattle.fs_serial.proofs.Returns.Lapsing as lapsing
 use Rattle.fs_serial.proofs.Transactions.OtherSteps.{begins_stands}
 use Rattle.fs_serial.proofs.Transactions.OthersKeep.{sent_client, taken_client}
-use Rattle.fs_serial.proofs.Transactions.PlacesAfter.{AreRelocked, relocked_not, relocked_then, unlocked_so, unlocked_unless, voted_so, word_taken}
+use Rattle.fs_serial.proofs.Transactions.PlacesAfter.{AreRelocked, names_there, relocked_not, relocked_then, unlocked_so, unlocked_unless}
+use Rattle.fs_serial.proofs.Transactions.PlacesAfter.{voted_so, word_taken}
 use Rattle.fs_serial.proofs.WholeRuns.EndedLed.{parcels_then}
 use Rattle.fs_serial.proofs.WholeRuns.EndedOthers.{other_later}
 use Rattle.fs_serial.proofs.WholeRuns.EndedStay.{RowsLater, counts_rise, ended_stays, fewer_later, stepped_later}
@@ -91,7 +93,8 @@ applied_locks k from m s = record {
 
 -- ## What comes
 
-module _ (skew greatest k : ℕ) (c : Cluster) (s : Server) (at : slice_get c.servers k ≡ Some s) (h : ClusterHolds skew greatest c) (from : ℕ) where
+module _ (skew greatest k : ℕ) (c : Cluster) (s : Server) (at : slice_get c.servers k ≡ Some s) (h : ClusterHolds skew greatest c)
+    (from : ℕ) where
   locks_later : (m : PeerMsg) → parcel_in m ≡ None → IsThere k (FromPeer from m) c
       → OnlyLocks k s (peer_step from m s) → RowsLater c (after_step k (FromPeer from m) (peer_step from m s) c)
   locks_later m plain there q =
@@ -103,7 +106,8 @@ module _ (skew greatest k : ℕ) (c : Cluster) (s : Server) (at : slice_get c.se
   comes_later : (m : PeerMsg) → IsThere k (FromPeer from m) c → RowsLater c (after_step k (FromPeer from m) (peer_step from m s) c)
   comes_later (OfParcel p) there = other_later skew greatest k c s at h (FromPeer from (OfParcel p)) there refl
   comes_later (Prepare m) there = locks_later (Prepare m) refl there
-      (elim (is_prepared m.txn m.number s.prepared) as (λ b. OnlyLocks k s (cond b (strange s) (votes (vote_here s m.session m.part) from m s))) [
+      (elim (is_prepared m.txn m.number s.prepared) as (λ b.
+      OnlyLocks k s (cond b (strange s) (votes (vote_here s m.session m.part) from m s))) [
         | true ↦ strange_locks k s
         | false ↦ voted_locks k from m s (vote_here s m.session m.part)
       ])
@@ -121,6 +125,7 @@ module _ (skew greatest k : ℕ) (c : Cluster) (s : Server) (at : slice_get c.se
       ])
   comes_later (Done m) there = locks_later (Done m) refl there
       (each_done (OnlyLocks k s) m s (strange_locks k s) (λ x left f. done_locks k (without_done m.number x) left s))
+  comes_later m there = absurd (names_there k from c m h.places there)
 
 -- what had ended had so after it too
 pub comes_still : (skew greatest now k : ℕ) (s : Server) (c : Cluster) → slice_get c.servers k ≡ Some s → max s.last now ≤ greatest
@@ -137,7 +142,8 @@ comes_still skew greatest now k s c at clock h from m there by number end readin
     let then : Cluster = after_step k e (event_step e b) started in
     let later : RowsLater started then = comes_later skew greatest k started b (get_here c.servers k s b at)
     (begins_stands skew greatest now k s c at clock h) from m (there_begun now k s e c there) in
-    subst (λ (ss : List Server). WasEnded (record after { servers = ss }) by number end reading) (set_twice c.servers k b (step s now e).server)
+    subst (λ (ss : List Server). WasEnded (record after { servers = ss }) by number end reading)
+    (set_twice c.servers k b (step s now e).server)
     (ended_stays started then by number end reading later
     (ap (λ (z : Client). z.led) (sent_client k (step s now e).out.send (without_question k e c.lines) by ∙ taken_client k e c.lines by))
     (ended_stays c started by number end reading fewer refl w))

@@ -29,14 +29,14 @@ use Rattle.fs_msg.specs.declared.client_msg.ClientMsg.TheVariants.{Ask, Renew, R
 use Rattle.fs_msg.specs.declared.entry.Entry.{Entry}
 use Rattle.fs_msg.specs.declared.item.Item.{Item}
 use Rattle.fs_msg.specs.declared.lead.Lead.{Lead as ToLead}
-use Rattle.fs_client.specs.Acts.{act_on, act_plan, answer_with, answers, ask_for, asks, full_one, hinted, need_file, stays, unless_led, with_id, worth}
-use Rattle.fs_client.specs.Answers.{answer_plan, ended_plan, fits, hear, led_plan, strange, told}
+use Rattle.fs_client.specs.Acts.{act_on, act_plan, answer_with, answers, ask_for, asks, full_one, hinted, need_file, stays, unless_led}
+use Rattle.fs_client.specs.Acts.{with_id, worth}
+use Rattle.fs_client.specs.Answers.{answer_plan, ended_plan, fits, hear, led_plan, strange, fitting_plan}
 use Rattle.fs_client.specs.Client.{begun}
 use Rattle.fs_client.specs.Turns.{ending, idle, release_some, renew_some, returned, ship_some, turn_free, turn_on, turn_plan}
 use Rattle.fs_client.specs.declared.led.Led.{Led as TheLed}
 use Rattle.fs_client.specs.declared.plan.Plan.{Plan}
 use Rattle.fs_client.specs.declared.state.Client.{Client as ClientState}
-use Rattle.fs_parcel.specs.Parcel.{move_refusal}
 use Rattle.fs_parcel.specs.declared.error.MoveError.{MoveError}
 use Rattle.fs_record.specs.declared.parcel.Parcel.{Parcel}
 use Rattle.fs_field.specs.declared.vote.Vote.{Vote as AVote}
@@ -75,6 +75,7 @@ use Rattle.fs_ident.proofs.Passing.{found}
 use Rattle.fs_field.specs.Table.{same_txn}
 use Rattle.fs_serial.specs.World.{is_called, pushed}
 use Rattle.fs_world.proofs.LedEach.{each_done, each_goes, each_vote}
+use Rattle.fs_serial.proofs.Moves.PathSteps.{each_message, refusal_here, refused}
 use Rattle.fs_serial.proofs.Replies.Answering.{AnswerEnds, answer_ends, as_entry, as_led, as_move, as_read, not_told, put_off}
 
 -- it asks for an access where it opens
@@ -120,7 +121,12 @@ full_fine (need.Fresh dir ∷ needs) c = tt
 
 ask_fine : (needs some : List Need) (c : ClientState) → MayBeFine (ask_for needs some c).out.admitted
 ask_fine needs [] c = full_fine needs c
-ask_fine needs (n ∷ ns) c = elim (is_some c.exchange) as (λ b. MayBeFine (cond b (stays (act.Busy busy.Exchange) c) (asks (hinted c (need_file n)) (n ∷ ns) c)).out.admitted) [ true ↦ tt | false ↦ tt ]
+ask_fine needs (n ∷ ns) c =
+    elim (is_some c.exchange) as (λ b.
+    MayBeFine (cond b (stays (act.Busy busy.Exchange) c) (asks (hinted c (need_file n)) (n ∷ ns) c)).out.admitted) [
+      | true ↦ tt
+      | false ↦ tt
+    ]
 
 end_fine : (o : Op) (r : Reply) (c : ClientState) (p : Plan Act) → AnswerEnds o r c p → is_called o ≡ true → MayBeFine p.out.admitted
 end_fine o r c p (as_entry t) h = tt
@@ -163,13 +169,15 @@ ship_fine [] c = tt
 ship_fine (e ∷ es) c = tt
 
 free_fine : (c : ClientState) → MayBeFine (turn_free c).out.admitted
-free_fine c = elim (not (is_empty c.log) && not (is_some c.over)) as (λ b. MayBeFine (cond b (ship_some c.log c) (release_some (returned c.view) c)).out.admitted) [
-  | true ↦ ship_fine c.log c
-  | false ↦ release_fine (returned c.view) c
-]
+free_fine c = elim (not (is_empty c.log) && not (is_some c.over)) as (λ b.
+    MayBeFine (cond b (ship_some c.log c) (release_some (returned c.view) c)).out.admitted) [
+      | true ↦ ship_fine c.log c
+      | false ↦ release_fine (returned c.view) c
+    ]
 
 turned_fine : (c : ClientState) → MayBeFine (turn_on c).out.admitted
-turned_fine c = elim (is_some c.exchange) as (λ b. MayBeFine (cond b (idle c) (turn_free c)).out.admitted) [ true ↦ tt | false ↦ free_fine c ]
+turned_fine c =
+    elim (is_some c.exchange) as (λ b. MayBeFine (cond b (idle c) (turn_free c)).out.admitted) [ true ↦ tt | false ↦ free_fine c ]
 
 pub turn_fine : (c : ClientState) (now : ℕ) → MayBeFine (turn_plan c now).out.admitted
 turn_fine c now = turned_fine (begun now c)
@@ -183,7 +191,7 @@ led_fine : (led : Option TheLed) (e : LedEnd) (c : ClientState) → MayBeFine (l
 led_fine None e c = tt
 led_fine (Some l) e c = ended_fine l e c
 
-told_fine : (a : Answer) (c : ClientState) → MayBeFine (told a c).out.admitted
+told_fine : (a : Answer) (c : ClientState) → MayBeFine (fitting_plan a c).out.admitted
 told_fine (Granted gs fresh e) c = tt
 told_fine (Renewed rows e) c = tt
 told_fine (Released count e) c = tt
@@ -192,7 +200,11 @@ told_fine (Led e) c = led_fine c.led e c
 told_fine (Recall number) c = tt
 
 heard_fine : (from : ℕ) (a : Answer) (c : ClientState) → MayBeFine (hear from a c).out.admitted
-heard_fine from a c = elim (fits from c.exchange a c) as (λ b. MayBeFine (cond b (told a c) (strange c)).out.admitted) [ true ↦ told_fine a c | false ↦ tt ]
+heard_fine from a c = elim (fits from c.exchange a c) as (λ b. MayBeFine (cond b (fitting_plan a c) (strange c)).out.admitted) [
+  | true ↦
+      told_fine a c
+  | false ↦ tt
+]
 
 pub answer_fine : (c : ClientState) (now from : ℕ) (a : Answer) → MayBeFine (answer_plan c now from a).out.admitted
 answer_fine c now from a = heard_fine from a (begun now c)
@@ -202,10 +214,17 @@ answer_fine c now from a = heard_fine from a (begun now c)
 abbrev pub EntriesAsk : List Entry → Type 0
 EntriesAsk es = (e : Entry) → In e es → AsksAccess e.op
 
-pub ships_fine : (by : Session) (es : List Entry) (s : ServerState) (admitted : List Item) → EntriesAsk es → AllFine admitted → AllFine (ship_from by es s admitted).admitted
+pub ships_fine : (by : Session) (es : List Entry) (s : ServerState) (admitted : List Item) → EntriesAsk es → AllFine admitted
+    → AllFine (ship_from by es s admitted).admitted
 ships_fine by = each_entry by (λ es s admitted x. EntriesAsk es → AllFine admitted → AllFine x.admitted)
     (λ s admitted a h. h)
-    (λ e es s admitted x mine here more a h. more (λ y i. a y (inr i)) (fine_more admitted (item_of by e ∷ []) h (record { asks = a e (inl refl) }, tt)))
+    (λ e es s admitted x mine here more a h. more (λ y i. a y (inr i)) (fine_more admitted (item_of by e ∷ []) h (
+      record {
+        asks =
+            a e (inl refl);
+      },
+      tt,
+    )))
     (λ e es s admitted at gaps why a h. h)
 
 abbrev pub MessageAsks : ClientMsg → Type 0
@@ -266,18 +285,26 @@ message_fine by (Ask items dir) s a = tt
 message_fine by (Renew pairs) s a = tt
 message_fine by (Release pairs) s a = tt
 message_fine by (Lead m) s a = lead_fine by m s (lead_step by m s) (lead_ends by m s)
-message_fine by (Ship entries) s a = elim (list_all (λ (e : Entry). tells_its_effects e.op) entries) as (λ b. AllFine (cond b (shipped by (ship_from by entries s [])) (server_strange s)).out.admitted) [
-  | true ↦ ships_fine by entries s [] a tt
-  | false ↦ tt
-]
+message_fine by (Ship entries) s a = elim (list_all (λ (e : Entry). tells_its_effects e.op) entries) as (λ b.
+    AllFine (cond b (shipped by (ship_from by entries s [])) (server_strange s)).out.admitted) [
+      | true ↦ ships_fine by entries s [] a tt
+      | false ↦ tt
+    ]
 
 -- ## Other events
 
 -- a reap opens nothing
-reaps_fine : (xs : List (List ℕ × Session)) (s : ServerState) (admitted : List Item) (blockers : List LeaseNo) → AllFine admitted → AllFine (reap_from xs s admitted blockers).admitted
+reaps_fine : (xs : List (List ℕ × Session)) (s : ServerState) (admitted : List Item) (blockers : List LeaseNo) → AllFine admitted
+    → AllFine (reap_from xs s admitted blockers).admitted
 reaps_fine = each_lapsed (λ xs s admitted blockers r. AllFine admitted → AllFine r.admitted)
     (λ s admitted blockers h. h)
-    (λ f x xs s admitted blockers r e more h. more (fine_more admitted (reap_item s.me (s.reaps + 1) f x ∷ []) h (record { asks = tt }, tt)))
+    (λ f x xs s admitted blockers r e more h. more (fine_more admitted (reap_item s.me (s.reaps + 1) f x ∷ []) h (
+      record {
+        asks =
+            tt;
+      },
+      tt,
+    )))
     (λ f x xs s admitted blockers r number e more h. more h)
 
 turn_over_fine : (xs : List (List ℕ × Session)) (s : ServerState) → AllFine (turn_over xs s).out.admitted
@@ -285,14 +312,16 @@ turn_over_fine [] s = tt
 turn_over_fine (x ∷ xs) s = reaps_fine (x ∷ xs) s [] [] tt
 
 move_fine : (o : Option MoveError) (prefix : List ℕ) (to : ℕ) (s : ServerState) → AllFine (move_at o prefix to s).out.admitted
-move_fine (Some why) prefix to s = tt
+move_fine (Some why) prefix to s =
+    refused (λ (x : Stepped). AllFine x.out.admitted) s (λ n ms paths asking given noted sent. tt) why prefix to
 move_fine None prefix to s = tt
 
 parcel_fine : (b : Bool) (p : Parcel) (s : ServerState) → AllFine (parcel_at b p s).out.admitted
 parcel_fine true p s = tt
 parcel_fine false p s = tt
 
-prepare_fine : (b : Bool) (v : AVote) (from : ℕ) (m : ToPrepare) (s : ServerState) → AllFine (cond b (server_strange s) (votes v from m s)).out.admitted
+prepare_fine : (b : Bool) (v : AVote) (from : ℕ) (m : ToPrepare) (s : ServerState)
+    → AllFine (cond b (server_strange s) (votes v from m s)).out.admitted
 prepare_fine true v from m s = tt
 prepare_fine false v from m s = tt
 
@@ -306,6 +335,8 @@ peer_fine from (Prepare m) s led = prepare_fine (is_prepared m.txn m.number s.pr
 peer_fine from (Vote m) s led = vote_fine m s led
 peer_fine from (Decide m) s led = decide_fine (is_prepared m.txn m.number s.prepared) from m s
 peer_fine from (Done m) s led = done_fine m s
+peer_fine from m s led =
+    each_message (λ (x : Stepped). AllFine x.out.admitted) s (λ n ms paths asking given noted sent. tt) from m tt
 
 abbrev pub EventAsks : ServerEvent → Type 0
 EventAsks (FromClient by m) = MessageAsks m
@@ -318,4 +349,4 @@ step_fine s now (TheRecall field) a led = tt
 step_fine s now (FromPeer from m) a led = peer_fine from m (server_begun now s) led
 step_fine s now (Move prefix to) a led =
     let b : ServerState = server_begun now s in
-    move_fine (move_refusal b.records b.rows b.map b.me prefix to None) prefix to b
+    move_fine (refusal_here prefix to b) prefix to b

@@ -28,15 +28,24 @@ no_rows : (servers skew term : ℕ) (s : Server) → In s (first_servers servers
 no_rows zero skew term s i = absurd i
 no_rows (suc k) skew term s i = either (In-append s (first_servers k skew term) (first_server k skew term ∷ []) i) (no_rows k skew term s)
   where
-    either : In s (first_servers k skew term) ⊎ In s (first_server k skew term ∷ []) → (In s (first_servers k skew term) → s.rows ≡ []) → s.rows ≡ []
+    either : In s (first_servers k skew term) ⊎ In s (first_server k skew term ∷ []) → (In s (first_servers k skew term) → s.rows ≡ [])
+        → s.rows ≡ []
     either (inl i) before = before i
     either (inr (inl e)) before = ap (λ (x : Server). x.rows) e
     either (inr (inr z)) before = absurd z
 
-pub first_holds : (laws : EventLaws) (servers skew term : ℕ) → 1 ≤ servers → HoldsOf laws servers skew 0 first_tale (first_served servers skew term)
+pub first_holds : (laws : EventLaws) (servers skew term : ℕ) → 1 ≤ servers
+    → HoldsOf laws servers skew 0 first_tale (first_served servers skew term)
 first_holds laws servers skew term some = record {
   replied = λ x. [];
-  cluster = subst (λ (lines : Session → Lines). laws.Holds skew 0 (record { servers = first_servers servers skew term; in_flight = []; journal = []; replied = λ x. []; lines = lines })) (first_seen term) (laws.first servers skew term 0 some);
+  cluster = subst (λ (lines : Session → Lines). laws.Holds skew 0 (record {
+    servers = first_servers servers skew term;
+    in_flight =
+        [];
+    journal = [];
+    replied = λ x. [];
+    lines = lines;
+  })) (first_seen term) (laws.first servers skew term 0 some);
   many = first_count servers skew term;
   rows = λ s i row j. absurd (subst (In row) (no_rows servers skew term s i) j);
   parcels = λ f i. absurd i;

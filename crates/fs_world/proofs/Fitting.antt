@@ -16,7 +16,8 @@ use Rattle.fs_world.specs.declared.form.Form.{Form}
 use Rattle.fs_world.specs.declared.form.Form.TheVariants.{Direct, Served}
 use Rattle.fs_world.proofs.StayingServers.{first_count, servers_stay}
 
-served_fits : (n k t : ℕ) (w : What) → IfSome (session_in w) (λ (s : Session). (1 ≤ s.0) × (s.0 ≤ SESSIONS)) → FitsWhat (head.Servers n k t) w → FitsServed n w
+served_fits : (n k t : ℕ) (w : What) → IfSome (session_in w) (λ (s : Session). (1 ≤ s.0) × (s.0 ≤ SESSIONS))
+    → FitsWhat (head.Servers n k t) w → FitsServed n w
 served_fits n k t (Join s) session f = session
 served_fits n k t (Do s o) session f = f.0
 served_fits n k t (Tell number) session f = tt
@@ -28,7 +29,8 @@ served_fits n k t (Move j prefix to) session f = (f.0.0, f.2.0)
 -- each event of a schedule may happen to its first world
 pub what_fits : (h : Head) (e : Event) → FitsEvent h e → FitsWorld (first_world h) e.what
 what_fits head.Direct e f = tt
-what_fits (head.Servers n k t) e f = subst (λ servers. FitsServed servers e.what) (sym (first_count n k t)) (served_fits n k t e.what f.session f.what)
+what_fits (head.Servers n k t) e f =
+    subst (λ servers. FitsServed servers e.what) (sym (first_count n k t)) (served_fits n k t e.what f.session f.what)
 
 -- what may happen may happen after another event
 pub fits_after : (w : Form) (x : Event) (what : What) → FitsWorld w what → FitsWorld (step w x).world what
@@ -36,7 +38,8 @@ fits_after (Direct w) x what f = tt
 fits_after (Served w) x what f = subst (λ servers. FitsServed servers what) (sym (servers_stay w x.reading x.what)) f
 
 -- what all of them are the one at a place is
-pub each_fits : (h : Head) (es : List Event) (i : ℕ) (e : Event) → AllByRecursion (FitsEvent h) es → i < length es → e ≡ get_or es i e → FitsEvent h e
+pub each_fits : (h : Head) (es : List Event) (i : ℕ) (e : Event) → AllByRecursion (FitsEvent h) es → i < length es → e ≡ get_or es i e
+    → FitsEvent h e
 each_fits h [] i e f within is = absurd (omega arith)
 each_fits h (x ∷ es) zero e f within is = subst (FitsEvent h) (sym is) f.0
 each_fits h (x ∷ es) (suc i) e f within is = each_fits h es i e f.1 (omega arith) is

@@ -42,11 +42,14 @@ Goes laws top h es tale w = ⊥
 
 -- ## One event
 
-still_ahead : (greatest now skew : ℕ) (es : List Event) → IsAhead greatest skew es → IsAhead now skew es → IsAhead (max greatest now) skew es
+still_ahead : (greatest now skew : ℕ) (es : List Event) → IsAhead greatest skew es → IsAhead now skew es
+    → IsAhead (max greatest now) skew es
 still_ahead greatest now skew [] a b = tt
 still_ahead greatest now skew (e ∷ es) a b = let p = a.0 in let q = b.0 in (omega arith, still_ahead greatest now skew es a.1 b.1)
 
-served_goes : (laws : SerialLaws) (top servers skew term : ℕ) (e : Event) (es : List Event) (tale : Tale) (w : TheServed) → ServedGoes laws top servers skew term (e ∷ es) tale w → Goes laws top (head.Servers servers skew term) es (after e.what (step (Served w) e).outcome tale) (step (Served w) e).world
+served_goes : (laws : SerialLaws) (top servers skew term : ℕ) (e : Event) (es : List Event) (tale : Tale) (w : TheServed)
+    → ServedGoes laws top servers skew term (e ∷ es) tale w
+    → Goes laws top (head.Servers servers skew term) es (after e.what (step (Served w) e).outcome tale) (step (Served w) e).world
 served_goes laws top servers skew term e es tale w h = record {
   some = h.some;
   greatest = max h.greatest e.reading;
@@ -58,7 +61,8 @@ served_goes laws top servers skew term e es tale w h = record {
   highest = h.highest;
 }
 
-pub goes_on : (laws : SerialLaws) (top : ℕ) (h : Head) (e : Event) (es : List Event) (tale : Tale) (w : Form) → Goes laws top h (e ∷ es) tale w → Goes laws top h es (after e.what (step w e).outcome tale) (step w e).world
+pub goes_on : (laws : SerialLaws) (top : ℕ) (h : Head) (e : Event) (es : List Event) (tale : Tale) (w : Form)
+    → Goes laws top h (e ∷ es) tale w → Goes laws top h es (after e.what (step w e).outcome tale) (step w e).world
 goes_on laws top head.Direct e es tale (Direct w) g = (g.0.1, direct.step_holds tale w e.what g.0.0 g.1)
 goes_on laws top (head.Servers servers skew term) e es tale (Served w) g = served_goes laws top servers skew term e es tale w g
 goes_on laws top head.Direct e es tale (Served w) g = absurd g
@@ -70,6 +74,17 @@ none_ahead : (skew : ℕ) (es : List Event) → IsAhead 0 skew es
 none_ahead skew [] = tt
 none_ahead skew (e ∷ es) = (omega arith, none_ahead skew es)
 
-pub goes_first : (laws : SerialLaws) (h : Head) (es : List Event) → FitsHead h → AllMayHappen h es → IsTimely h es → AllCarry (first_world h) es → Goes laws (greatest_of 0 es) h es first_tale (first_world h)
+pub goes_first : (laws : SerialLaws) (h : Head) (es : List Event) → FitsHead h → AllMayHappen h es → IsTimely h es
+    → AllCarry (first_world h) es → Goes laws (greatest_of 0 es) h es first_tale (first_world h)
 goes_first laws head.Direct es fits called timely carry = (called, direct.first_holds)
-goes_first laws (head.Servers servers skew term) es fits called timely carry = record { greatest = 0; some = fits.0; holds = first_holds (timed laws) servers skew term fits.0; called = called; within = timely; carry = carry; ahead = none_ahead skew es; highest = refl }
+goes_first laws (head.Servers servers skew term) es fits called timely carry = record {
+  greatest = 0;
+  some = fits.0;
+  holds = first_holds (timed laws) servers skew term fits.0;
+  called = called;
+  within = timely;
+  carry = carry;
+  ahead =
+      none_ahead skew es;
+  highest = refl;
+}

@@ -20,14 +20,16 @@ use Rattle.fs_world.proofs.LinkedLists.{found_joined}
 -- a question of the session
 pub first_question : (k : ℕ) (s : Session) (state : SessionState) (j : Joined) (js : List Joined)
     → AreFirstOf (j ∷ js) (ups_of k (Some state))
-    → (m : ℕ × ClientMsg) × (find (is_with k) state.up ≡ Some m) × (event_heard (Client s) (j ∷ js) ≡ Some (FromClient s m.1)) × FitsMessage (msg.Client m.1)
+    → (m : ℕ × ClientMsg) × (find (is_with k) state.up ≡ Some m) × (event_heard (Client s) (j ∷ js) ≡ Some
+    (FromClient s m.1)) × FitsMessage (msg.Client m.1)
 first_question k s state j js f = at (find (is_with k) state.up) refl
   where
     as_sent : ℕ × ClientMsg → Msg
     as_sent m = msg.Client m.1
 
     at : (o : Option (ℕ × ClientMsg)) → find (is_with k) state.up ≡ o
-        → (m : ℕ × ClientMsg) × (find (is_with k) state.up ≡ Some m) × (event_heard (Client s) (j ∷ js) ≡ Some (FromClient s m.1)) × FitsMessage (msg.Client m.1)
+        → (m : ℕ × ClientMsg) × (find (is_with k) state.up ≡ Some m) × (event_heard (Client s) (j ∷ js) ≡ Some
+        (FromClient s m.1)) × FitsMessage (msg.Client m.1)
     at None e = absurd (found_joined as_sent (is_with k) state.up (j ∷ js) None e f)
     at (Some m) e =
         let here = found_joined as_sent (is_with k) state.up (j ∷ js) (Some m) e f in
@@ -42,7 +44,8 @@ first_flying k i in_flight j js f = at (find (is_between i k) in_flight) refl
     as_sent : InFlight → Msg
     as_sent x = msg.Peer x.message
 
-    at : (o : Option InFlight) → find (is_between i k) in_flight ≡ o → (x : InFlight) × (find (is_between i k) in_flight ≡ Some x) × (event_heard (Server i) (j ∷ js) ≡ Some (FromPeer i x.message))
+    at : (o : Option InFlight) → find (is_between i k) in_flight ≡ o
+        → (x : InFlight) × (find (is_between i k) in_flight ≡ Some x) × (event_heard (Server i) (j ∷ js) ≡ Some (FromPeer i x.message))
     at None e = absurd (found_joined as_sent (is_between i k) in_flight (j ∷ js) None e f)
     at (Some x) e =
         let here = found_joined as_sent (is_between i k) in_flight (j ∷ js) (Some x) e f in

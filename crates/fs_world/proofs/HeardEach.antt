@@ -1,6 +1,7 @@
 -- What a session does with all that a packet of a server joins: these are answers of that server, its client hears one after another,
 -- and it neither sends nor admits anything of them.
-use Rattle.std.proofs.Common.{◌≡◌, ℕ, Bool, false, List, [], ◌∷◌, ◌++◌, length, map, filter, Option, Some, None, refl, sym, ap, subst, ◌∙◌, append-nil, append_assoc}
+use Rattle.std.proofs.Common.{◌≡◌, ℕ, Bool, false, List, [], ◌∷◌, ◌++◌, length, map, filter, Option, Some, None, refl, sym, ap, subst, ◌∙◌}
+use Rattle.std.proofs.Common.{append-nil, append_assoc}
 use Rattle.std.specs.List.{find}
 use Rattle.std.proofs.lemmas.Bool.{eqb-true}
 use Rattle.fs_ident.specs.declared.actor.Peer.{Peer}
@@ -52,11 +53,13 @@ AreAnswers k (j ∷ js) (a ∷ answers) = (answer_from (Server k) (message_in j)
 abbrev as_sent : ℕ × Answer → Msg
 as_sent m = msg.Answer m.1
 
-first_answer : (k : ℕ) (down : List (ℕ × Answer)) (j : Joined) (js : List Joined) → AreFirstOf (j ∷ js) (map as_sent (filter (is_with k) down))
+first_answer : (k : ℕ) (down : List (ℕ × Answer)) (j : Joined) (js : List Joined)
+    → AreFirstOf (j ∷ js) (map as_sent (filter (is_with k) down))
     → (a : Answer) × (find (is_with k) down ≡ Some (k, a)) × (answer_from (Server k) (message_in j) ≡ Some (k, a))
 first_answer k down j js f = at (find (is_with k) down) refl
   where
-    at : (o : Option (ℕ × Answer)) → find (is_with k) down ≡ o → (a : Answer) × (find (is_with k) down ≡ Some (k, a)) × (answer_from (Server k) (message_in j) ≡ Some (k, a))
+    at : (o : Option (ℕ × Answer)) → find (is_with k) down ≡ o
+        → (a : Answer) × (find (is_with k) down ≡ Some (k, a)) × (answer_from (Server k) (message_in j) ≡ Some (k, a))
     at None e = absurd (found_joined as_sent (is_with k) down (j ∷ js) None e f)
     at (Some m) e =
         let here = found_joined as_sent (is_with k) down (j ∷ js) (Some m) e f in
@@ -64,15 +67,18 @@ first_answer k down j js f = at (find (is_with k) down) refl
         (m.1, e ∙ ap (λ (n : ℕ). Some (n, m.1)) same, ap (answer_from (Server k)) (sent_read j (msg.Answer m.1) here.0.0 here.0.1))
 
 -- what comes first of the answers on their way is answers, each the next one
-pub answers_in : (k : ℕ) (js : List Joined) (down : List (ℕ × Answer)) → AreFirstOf js (map as_sent (filter (is_with k) down)) → (answers : List Answer) × AreAnswers k js answers × AreNext k answers down
+pub answers_in : (k : ℕ) (js : List Joined) (down : List (ℕ × Answer)) → AreFirstOf js (map as_sent (filter (is_with k) down))
+    → (answers : List Answer) × AreAnswers k js answers × AreNext k answers down
 answers_in k [] down f = ([], tt, tt)
 answers_in k (j ∷ js) down f =
     let first = first_answer k down j js f in
-    let rest = answers_in k js (without_first (is_with k) down) (subst (λ (ms : List (ℕ × Answer)). AreFirstOf js (map as_sent ms)) (sym (first_gone (is_with k) down)) (later_first as_sent j js (filter (is_with k) down) f)) in
+    let rest = answers_in k js (without_first (is_with k) down) (subst (λ (ms : List (ℕ × Answer)). AreFirstOf js (map as_sent ms))
+    (sym (first_gone (is_with k) down)) (later_first as_sent j js (filter (is_with k) down) f)) in
     (first.0 ∷ rest.0, (first.2, rest.1), (first.1, rest.2))
 
 -- as many go
-pub gone_alike : {X : Type 0} (k : ℕ) (js : List Joined) (answers : List Answer) (is : X → Bool) (xs : List X) → AreAnswers k js answers → without_each js is xs ≡ without_each answers is xs
+pub gone_alike : {X : Type 0} (k : ℕ) (js : List Joined) (answers : List Answer) (is : X → Bool) (xs : List X) → AreAnswers k js answers
+    → without_each js is xs ≡ without_each answers is xs
 gone_alike k [] [] is xs h = refl
 gone_alike k [] (a ∷ answers) is xs h = absurd h
 gone_alike k (j ∷ js) [] is xs h = absurd h
@@ -88,11 +94,18 @@ heard_all now k (a ∷ answers) c = heard_all now k answers (committed (answer_p
 -- what it notes of them
 abbrev pub notes_all : ℕ → ℕ → List Answer → ClientCore → List Note
 notes_all now k [] c = []
-notes_all now k (a ∷ answers) c = note.Client (answer_plan c now k a).out.note ∷ notes_all now k answers (committed (answer_plan c now k a).ready c)
+notes_all now k (a ∷ answers) c =
+    note.Client (answer_plan c now k a).out.note ∷ notes_all now k answers (committed (answer_plan c now k a).ready c)
 
 -- what stands at the session then
 abbrev pub session_after : ℕ → ℕ → List Answer → Links → SessionState → SessionState
-session_after now k answers post state = record { client = heard_all now k answers state.client; post = post; up = state.up; down = without_each answers (is_with k) state.down }
+session_after now k answers post state = record {
+  client = heard_all now k answers state.client;
+  post = post;
+  up = state.up;
+  down =
+      without_each answers (is_with k) state.down;
+}
 
 -- nothing is sent and nothing is admitted in between
 pub record IsQuiet (x y : ClientRun) : Type 0 where
@@ -121,9 +134,16 @@ each_quiet s now from [] x = record { post = refl; send = refl; admitted = refl;
 each_quiet s now from (j ∷ js) x =
     let one = one_quiet s now (answer_from from (message_in j)) x in
     let rest = each_quiet s now from js (client_hears_one s now (answer_from from (message_in j)) x) in
-    record { post = rest.post ∙ one.post; send = rest.send ∙ one.send; admitted = rest.admitted ∙ one.admitted; spent = rest.spent ∙ one.spent }
+    record {
+      post = rest.post ∙ one.post;
+      send = rest.send ∙ one.send;
+      admitted = rest.admitted ∙ one.admitted;
+      spent =
+          rest.spent ∙ one.spent;
+    }
 
-each_client : (s : Session) (now k : ℕ) (js : List Joined) (answers : List Answer) (x : ClientRun) → AreAnswers k js answers → (client_hears_each s now (Server k) js x).client ≡ heard_all now k answers x.client
+each_client : (s : Session) (now k : ℕ) (js : List Joined) (answers : List Answer) (x : ClientRun) → AreAnswers k js answers
+    → (client_hears_each s now (Server k) js x).client ≡ heard_all now k answers x.client
 each_client s now k [] [] x h = refl
 each_client s now k [] (a ∷ answers) x h = absurd h
 each_client s now k (j ∷ js) [] x h = absurd h
@@ -131,14 +151,16 @@ each_client s now k (j ∷ js) (a ∷ answers) x h =
     ap (λ (o : Option (ℕ × Answer)). (client_hears_each s now (Server k) js (client_hears_one s now o x)).client) h.0
     ∙ each_client s now k js answers (client_hears_one s now (Some (k, a)) x) h.1
 
-each_notes : (s : Session) (now k : ℕ) (js : List Joined) (answers : List Answer) (x : ClientRun) → AreAnswers k js answers → (client_hears_each s now (Server k) js x).notes ≡ x.notes ++ notes_all now k answers x.client
+each_notes : (s : Session) (now k : ℕ) (js : List Joined) (answers : List Answer) (x : ClientRun) → AreAnswers k js answers
+    → (client_hears_each s now (Server k) js x).notes ≡ x.notes ++ notes_all now k answers x.client
 each_notes s now k [] [] x h = sym (append-nil x.notes)
 each_notes s now k [] (a ∷ answers) x h = absurd h
 each_notes s now k (j ∷ js) [] x h = absurd h
 each_notes s now k (j ∷ js) (a ∷ answers) x h =
     ap (λ (o : Option (ℕ × Answer)). (client_hears_each s now (Server k) js (client_hears_one s now o x)).notes) h.0
     ∙ each_notes s now k js answers (client_hears_one s now (Some (k, a)) x) h.1
-    ∙ append_assoc x.notes (note.Client (answer_plan x.client now k a).out.note ∷ []) (notes_all now k answers (committed (answer_plan x.client now k a).ready x.client))
+    ∙ append_assoc x.notes (note.Client (answer_plan x.client now k a).out.note ∷ [])
+    (notes_all now k answers (committed (answer_plan x.client now k a).ready x.client))
 
 -- ## The session's event
 
@@ -158,7 +180,8 @@ state_heard s now k from answers notes state journal packets = record {
   spent = None;
 }
 
-abbrev left : Session → Option Peer → ClientCore → Links → List (ℕ × ClientMsg) → List (ℕ × Answer) → List Item → Packets → List Note → Option Counter → SessionStepped
+abbrev left : Session → Option Peer → ClientCore → Links → List (ℕ × ClientMsg) → List (ℕ × Answer) → List Item → Packets → List Note
+    → Option Counter → SessionStepped
 left s from c post up down journal packets notes spent = record {
   state = record { client = c; post = (post_due post false from).links; up = up; down = down };
   journal = journal;
@@ -168,7 +191,8 @@ left s from c post up down journal packets notes spent = record {
 }
 
 -- what a run leaves that sent nothing
-pub ran_quiet : (s : Session) (from : Option Peer) (y : ClientRun) (c : ClientCore) (post : Links) (notes : List Note) (down : List (ℕ × Answer)) (state : SessionState) (journal : List Item) (packets : Packets)
+pub ran_quiet : (s : Session) (from : Option Peer) (y : ClientRun) (c : ClientCore) (post : Links) (notes : List Note)
+    (down : List (ℕ × Answer)) (state : SessionState) (journal : List Item) (packets : Packets)
     → y.client ≡ c → y.notes ≡ notes → IsQuiet (client_begins c post []) y
     → session_ran s (client_replies from y) down state journal packets ≡ left s from c post state.up down journal packets notes None
 ran_quiet s from y c post notes down state journal packets client noted q =
@@ -176,11 +200,14 @@ ran_quiet s from y c post notes down state journal packets client noted q =
     let items : journal ++ y.admitted ≡ journal = ap (λ (is : List Item). journal ++ is) q.admitted ∙ append-nil journal in
     λ i. left s from (client i) (q.post i) (up i) down (items i) packets (noted i) (q.spent i)
 
-heard_of : (s : Session) (now k : ℕ) (from : Option Peer) (fresh : ℕ) (js : List Joined) (answers : List Answer) (state : SessionState) (journal : List Item) (packets : Packets) → AreAnswers k js answers
-    → client_hears now s k from (record { fresh = fresh; joined = js }) state journal packets ≡ state_heard s now k from answers (heard_notes (record { fresh = fresh; joined = js }) now k answers state.client) state journal packets
+heard_of : (s : Session) (now k : ℕ) (from : Option Peer) (fresh : ℕ) (js : List Joined) (answers : List Answer) (state : SessionState)
+    (journal : List Item) (packets : Packets) → AreAnswers k js answers
+    → client_hears now s k from (record { fresh = fresh; joined = js }) state journal packets ≡ state_heard s now k from answers
+    (heard_notes (record { fresh = fresh; joined = js }) now k answers state.client) state journal packets
 heard_of s now k from fresh [] [] state journal packets h =
     let gave : Heard = record { fresh = fresh; joined = [] } in
-    ran_quiet s from (client_begins state.client state.post (quiet_note gave ∷ [])) state.client state.post (quiet_note gave ∷ []) state.down state journal packets refl refl (record { post = refl; send = refl; admitted = refl; spent = refl })
+    ran_quiet s from (client_begins state.client state.post (quiet_note gave ∷ [])) state.client state.post (quiet_note gave ∷ [])
+    state.down state journal packets refl refl (record { post = refl; send = refl; admitted = refl; spent = refl })
 heard_of s now k from fresh [] (a ∷ answers) state journal packets h = absurd h
 heard_of s now k from fresh (j ∷ js) [] state journal packets h = absurd h
 heard_of s now k from fresh (j ∷ js) (a ∷ answers) state journal packets h =
@@ -188,10 +215,20 @@ heard_of s now k from fresh (j ∷ js) (a ∷ answers) state journal packets h =
     let y = client_hears_each s now (Server k) (j ∷ js) x in
     let q = each_quiet s now (Server k) (j ∷ js) x in
     let down = without_each (j ∷ js) (is_with k) state.down in
-    ran_quiet s from y (heard_all now k (a ∷ answers) state.client) state.post (notes_all now k (a ∷ answers) state.client) down state journal packets
-    (each_client s now k (j ∷ js) (a ∷ answers) x h) (each_notes s now k (j ∷ js) (a ∷ answers) x h) (record { post = q.post; send = q.send; admitted = q.admitted; spent = q.spent })
-    ∙ ap (λ (ms : List (ℕ × Answer)). left s from (heard_all now k (a ∷ answers) state.client) state.post state.up ms journal packets (notes_all now k (a ∷ answers) state.client) None) (gone_alike k (j ∷ js) (a ∷ answers) (is_with k) state.down h)
+    ran_quiet s from y (heard_all now k (a ∷ answers) state.client) state.post (notes_all now k (a ∷ answers) state.client) down state
+    journal packets
+    (each_client s now k (j ∷ js) (a ∷ answers) x h) (each_notes s now k (j ∷ js) (a ∷ answers) x h) (record {
+      post = q.post;
+      send =
+          q.send;
+      admitted = q.admitted;
+      spent = q.spent;
+    })
+    ∙ ap (λ (ms : List (ℕ × Answer)). left s from (heard_all now k (a ∷ answers) state.client) state.post state.up ms journal packets
+    (notes_all now k (a ∷ answers) state.client) None) (gone_alike k (j ∷ js) (a ∷ answers) (is_with k) state.down h)
 
-pub heard_is : (s : Session) (now k : ℕ) (from : Option Peer) (h : Heard) (answers : List Answer) (state : SessionState) (journal : List Item) (packets : Packets) → AreAnswers k h.joined answers
-    → client_hears now s k from h state journal packets ≡ state_heard s now k from answers (heard_notes h now k answers state.client) state journal packets
+pub heard_is : (s : Session) (now k : ℕ) (from : Option Peer) (h : Heard) (answers : List Answer) (state : SessionState)
+    (journal : List Item) (packets : Packets) → AreAnswers k h.joined answers
+    → client_hears now s k from h state journal packets ≡ state_heard s now k from answers (heard_notes h now k answers state.client) state
+    journal packets
 heard_is s now k from h answers state journal packets of = heard_of s now k from h.fresh h.joined answers state journal packets of

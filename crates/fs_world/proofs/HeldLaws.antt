@@ -20,8 +20,10 @@ serial_laws = record {
   client_plain = λ skew greatest now from a by c can h. answer_known skew greatest c by h from a can now;
   first = first_stands;
   fair = fair;
-  fair_event = λ skew greatest now k e s c at clock within there h f. server_fair skew greatest now k e s c at clock (omega (arith, within)) there h f;
-  fair_note = λ skew greatest now k e s c at clock within there h f. (server_keeps_fair skew greatest now k e s c at clock (omega (arith, within)) there h f).1;
+  fair_event = λ skew greatest now k e s c at clock within there h f. server_fair skew greatest now k e s c at clock
+      (omega (arith, within)) there h f;
+  fair_note = λ skew greatest now k e s c at clock within there h f.
+      (server_keeps_fair skew greatest now k e s c at clock (omega (arith, within)) there h f).1;
   fair_client = λ skew greatest now c by h f e can. client_keeps_fair skew greatest now c by h f e can;
   fair_first = first_fair;
 }

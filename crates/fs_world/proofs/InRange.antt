@@ -1,5 +1,6 @@
 -- Messages on their way are in range: where links carry them, and what a core sends where all are in range then.
-use Rattle.std.proofs.Common.{◌≡◌, ◌∙◌, ◌==◌, ℕ, Bool, true, false, List, [], ◌∷◌, ◌++◌, filter, Option, Some, None, refl, sym, ap, subst, inl, inr}
+use Rattle.std.proofs.Common.{◌≡◌, ◌∙◌, ◌==◌, ℕ, Bool, true, false, List, [], ◌∷◌, ◌++◌, filter, Option, Some, None, refl, sym, ap, subst}
+use Rattle.std.proofs.Common.{inl, inr}
 use Rattle.std.specs.FinMap.{get, insert}
 use Rattle.std.specs.List.{AllByRecursion}
 use Rattle.fs_ident.specs.In.{In}
@@ -61,7 +62,8 @@ module _ (w : Served) (h : IsLinked w) where
       let way = (h.ties.pairs (Server m.0) (Client s) q.0 state.post refl q.1 (ap state_post at)).way in
       each_of IsInRange (downs_of m.0 (get w.sessions s.0)) way.fits (msg.Answer m.1)
       (subst (λ (o : Option SessionState). In (msg.Answer m.1) (downs_of m.0 o)) (sym at)
-      (In-mapped (λ (x : ℕ × Answer). msg.Answer x.1) m (filter (is_with m.0) state.down) (In-kept (is_with m.0) m state.down i (itself m.0))))
+      (In-mapped (λ (x : ℕ × Answer). msg.Answer x.1) m (filter (is_with m.0) state.down)
+      (In-kept (is_with m.0) m state.down i (itself m.0))))
 
   flying_fits : (f : InFlight) → In f w.in_flight → IsInRange (msg.Peer f.message)
   flying_fits f i =
@@ -82,9 +84,11 @@ written : (m : Msg) → IsInRange m → IsWritten m
 written m r = record { short = r.short; fits = λ e. r.fits }
 
 -- by a client
-pub up_written : (w : Served) (s : Session) (state : SessionState) (send : Option (ℕ × ClientMsg)) (up : List (ℕ × ClientMsg)) → get w.sessions s.0 ≡ Some state → state.up ≡ up_after send up → AllInRange w → FitsUp send
+pub up_written : (w : Served) (s : Session) (state : SessionState) (send : Option (ℕ × ClientMsg)) (up : List (ℕ × ClientMsg))
+    → get w.sessions s.0 ≡ Some state → state.up ≡ up_after send up → AllInRange w → FitsUp send
 up_written w s state None up at is r = tt
-up_written w s state (Some m) up at is r = written (msg.Client m.1) (r.up s state m at (subst (λ (ms : List (ℕ × ClientMsg)). In m ms) (sym is) (In-last up m)))
+up_written w s state (Some m) up at is r =
+    written (msg.Client m.1) (r.up s state m at (subst (λ (ms : List (ℕ × ClientMsg)). In m ms) (sym is) (In-last up m)))
 
 -- an answer is on its way to the session
 record HasDown (sessions : SessionStates) (s : Session) (y : ℕ × Answer) : Type 0 where
@@ -92,7 +96,8 @@ record HasDown (sessions : SessionStates) (s : Session) (y : ℕ × Answer) : Ty
   at : get sessions s.0 ≡ Some state
   among : In y state.down
 
-down_put : (sessions : SessionStates) (t : Session) (old : SessionState) (x y : ℕ × Answer) (s : Session) → get sessions t.0 ≡ Some old → HasDown sessions s y → HasDown (insert sessions t.0 (record old { down = old.down ++ x ∷ [] })) s y
+down_put : (sessions : SessionStates) (t : Session) (old : SessionState) (x y : ℕ × Answer) (s : Session) → get sessions t.0 ≡ Some old
+    → HasDown sessions s y → HasDown (insert sessions t.0 (record old { down = old.down ++ x ∷ [] })) s y
 down_put sessions t old x y s at h = either (same_peer (Client s) (Client t)) refl
   where
     new : SessionState
@@ -120,18 +125,21 @@ one_stays k (Client t, msg.Client m) sessions s y h = h
 one_stays k (Client t, msg.Peer m) sessions s y h = h
 one_stays k (Server to, m) sessions s y h = h
 
-all_stay : (k : ℕ) (xs : List (Peer × Msg)) (sessions : SessionStates) (s : Session) (y : ℕ × Answer) → HasDown sessions s y → HasDown (with_downs k xs sessions) s y
+all_stay : (k : ℕ) (xs : List (Peer × Msg)) (sessions : SessionStates) (s : Session) (y : ℕ × Answer) → HasDown sessions s y
+    → HasDown (with_downs k xs sessions) s y
 all_stay k [] sessions s y h = h
 all_stay k (x ∷ xs) sessions s y h = all_stay k xs (with_down k x sessions) s y (one_stays k x sessions s y h)
 
-one_goes : (k : ℕ) (s : Session) (a : Answer) (sessions : SessionStates) → HasJoined sessions s → HasDown (with_down k (Client s, msg.Answer a) sessions) s (k, a)
+one_goes : (k : ℕ) (s : Session) (a : Answer) (sessions : SessionStates) → HasJoined sessions s
+    → HasDown (with_down k (Client s, msg.Answer a) sessions) s (k, a)
 one_goes k s a sessions j =
     let state : SessionState = j.0 in
     let new : SessionState = record state { down = state.down ++ (k, a) ∷ [] } in
     subst (λ (o : Option SessionState). HasDown (with_down_at o s.0 (k, a) sessions) s (k, a)) (sym j.1)
     (record { state = new; at = got_here sessions s new; among = In-last state.down (k, a) })
 
-answers_go : (k : ℕ) (xs : List (Peer × Msg)) (sessions : SessionStates) (s : Session) (a : Answer) → HasJoined sessions s → In (Client s, msg.Answer a) xs → HasDown (with_downs k xs sessions) s (k, a)
+answers_go : (k : ℕ) (xs : List (Peer × Msg)) (sessions : SessionStates) (s : Session) (a : Answer) → HasJoined sessions s
+    → In (Client s, msg.Answer a) xs → HasDown (with_downs k xs sessions) s (k, a)
 answers_go k [] sessions s a j i = absurd i
 answers_go k (x ∷ xs) sessions s a j (inl e) =
     subst (λ (z : Peer × Msg). HasDown (with_downs k xs (with_down k z sessions)) s (k, a)) e
@@ -144,7 +152,8 @@ more_fly k (Server to, msg.Answer a) xs f i = i
 more_fly k (Server to, msg.Client m) xs f i = i
 more_fly k (Client s, m) xs f i = i
 
-peers_go : (k : ℕ) (xs : List (Peer × Msg)) (to : ℕ) (m : PeerMsg) → In (Server to, msg.Peer m) xs → In (record { from = k; to = to; message = m }) (in_flight_from k xs)
+peers_go : (k : ℕ) (xs : List (Peer × Msg)) (to : ℕ) (m : PeerMsg) → In (Server to, msg.Peer m) xs
+    → In (record { from = k; to = to; message = m }) (in_flight_from k xs)
 peers_go k [] to m i = absurd i
 peers_go k (x ∷ xs) to m (inl e) =
     let f : InFlight = record { from = k; to = to; message = m } in
@@ -152,9 +161,11 @@ peers_go k (x ∷ xs) to m (inl e) =
 peers_go k (x ∷ xs) to m (inr i) = more_fly k x xs (record { from = k; to = to; message = m }) (peers_go k xs to m i)
 
 -- by a server
-pub down_written : (servers : ℕ) (sessions before : SessionStates) (k : ℕ) (xs : List (Peer × Msg)) (in_flight : List InFlight) (w : Served) → AreSent servers sessions k xs → ((t : Session) → HasJoined sessions t → HasJoined before t)
+pub down_written : (servers : ℕ) (sessions before : SessionStates) (k : ℕ) (xs : List (Peer × Msg)) (in_flight : List InFlight)
+    (w : Served) → AreSent servers sessions k xs → ((t : Session) → HasJoined sessions t → HasJoined before t)
     → w.sessions ≡ with_downs k xs before → w.in_flight ≡ in_flight ++ in_flight_from k xs → AllInRange w → FitsDown xs
-down_written servers sessions before k xs in_flight w sent joined sessions_are flying_is r = all_of (λ (x : Peer × Msg). IsWritten x.1) xs (λ x i. one x i (each_of (IsSent servers sessions k) xs sent x i))
+down_written servers sessions before k xs in_flight w sent joined sessions_are flying_is r =
+    all_of (λ (x : Peer × Msg). IsWritten x.1) xs (λ x i. one x i (each_of (IsSent servers sessions k) xs sent x i))
   where
     one : (x : Peer × Msg) → In x xs → IsSent servers sessions k x → IsWritten x.1
     one (Client s, msg.Answer a) i q =
@@ -162,7 +173,9 @@ down_written servers sessions before k xs in_flight w sent joined sessions_are f
         written (msg.Answer a) (r.down s d.state (k, a) (ap (λ (m : SessionStates). get m s.0) sessions_are ∙ d.at) d.among)
     one (Server to, msg.Peer m) i q =
         let f : InFlight = record { from = k; to = to; message = m } in
-        written (msg.Peer m) (r.in_flight f (subst (λ (fs : List InFlight). In f fs) (sym flying_is) (In-behind f in_flight (in_flight_from k xs) (peers_go k xs to m i))))
+        written (msg.Peer m)
+        (r.in_flight f
+        (subst (λ (fs : List InFlight). In f fs) (sym flying_is) (In-behind f in_flight (in_flight_from k xs) (peers_go k xs to m i))))
     one (Client s, msg.Client m) i q = absurd q
     one (Client s, msg.Peer m) i q = absurd q
     one (Server to, msg.Answer a) i q = absurd q

@@ -64,6 +64,7 @@ pub mod AnyReadings
 pub mod Runs
 pub mod Whole
 pub mod LedEach
+pub mod OwnSessions
 mod EndedStill
 mod EndedOnward
 pub mod Right

@@ -1,5 +1,6 @@
 -- What holds of the links holds of the first world, and of one where a session joins or a packet was told.
-use Rattle.std.proofs.Common.{◌≡◌, ◌∙◌, ◌<◌, ◌≤◌, ℕ, zero, suc, true, List, [], ◌∷◌, length, Option, Some, None, refl, sym, ap, subst, inl, inr, arith, length-append}
+use Rattle.std.proofs.Common.{◌≡◌, ◌∙◌, ◌<◌, ◌≤◌, ℕ, zero, suc, true, List, [], ◌∷◌, length, Option, Some, None, refl, sym, ap, subst, inl}
+use Rattle.std.proofs.Common.{inr, arith, length-append}
 use Rattle.std.specs.Prelude.{slice_get}
 use Rattle.std.specs.FinMap.{empty, get, get-empty, insert}
 use Rattle.std.specs.Ordering.{nat_cmp}
@@ -15,7 +16,8 @@ use Rattle.fs_serial.specs.Cluster.{first_servers}
 use Rattle.fs_serial.specs.declared.in_flight.InFlight.{InFlight}
 use Rattle.fs_server.specs.Server.{first_server}
 use Rattle.fs_server.specs.declared.state.Server.{Server as Core}
-use Rattle.fs_world.specs.Linked.{AreTied, Brings, HasJoined, IsCarried, IsLinked, IsPair, IsPost, IsSoundState, IsServed, between, downs_of, post_of, state_post, ups_of}
+use Rattle.fs_world.specs.Linked.{AreTied, Brings, HasJoined, IsCarried, IsLinked, IsPair, IsPost, IsSoundState, IsServed, between}
+use Rattle.fs_world.specs.Linked.{downs_of, post_of, state_post, ups_of}
 use Rattle.fs_world.specs.Packets.{with_delivered}
 use Rattle.fs_world.specs.Served.{SessionStates, first_posts, first_session_state, first_served, join_at, link_width}
 use Rattle.fs_world.specs.declared.servers.session_state.SessionState.{SessionState}
@@ -30,13 +32,15 @@ use Rattle.fs_world.proofs.NamedServers.{first_served_core, in_range}
 use Rattle.fs_world.proofs.Seen.{joined_still}
 use Rattle.fs_world.proofs.StayingServers.{first_count}
 use Rattle.fs_msg.specs.declared.peer_msg.PeerMsg.{PeerMsg}
-use Rattle.fs_msg.specs.declared.peer_msg.PeerMsg.TheVariants.{Parcel as OfParcel, Prepare, Vote, Decide, Done}
+use Rattle.fs_msg.specs.declared.peer_msg.PeerMsg.TheVariants.{Parcel as OfParcel, Prepare}
 
 -- ## Whoever has joined stays
 
-pub served_then : (servers : ℕ) (a b : SessionStates) (k : ℕ) (s : Core) → ((t : Session) → HasJoined a t → HasJoined b t) → IsServed servers a k s → IsServed servers b k s
+pub served_then : (servers : ℕ) (a b : SessionStates) (k : ℕ) (s : Core) → ((t : Session) → HasJoined a t → HasJoined b t)
+    → IsServed servers a k s → IsServed servers b k s
 served_then servers a b k s g h = record {
   me = h.me;
+  pathless = h.pathless;
   named = h.named;
   records = h.records;
   handles = h.handles;
@@ -49,11 +53,10 @@ brings_then : (servers : ℕ) (a b : SessionStates) (m : PeerMsg) → ((t : Sess
     → Brings servers b m
 brings_then servers a b (OfParcel p) g h = record { each = h.each; handles = h.handles; rows = λ row i. g row.session (h.rows row i) }
 brings_then servers a b (Prepare m) g h = g m.session h
-brings_then servers a b (Vote m) g h = h
-brings_then servers a b (Decide m) g h = h
-brings_then servers a b (Done m) g h = h
+brings_then servers a b m g h = h
 
-pub carried_then : (servers : ℕ) (a b : SessionStates) (f : InFlight) → ((t : Session) → HasJoined a t → HasJoined b t) → IsCarried servers a f → IsCarried servers b f
+pub carried_then : (servers : ℕ) (a b : SessionStates) (f : InFlight) → ((t : Session) → HasJoined a t → HasJoined b t)
+    → IsCarried servers a f → IsCarried servers b f
 carried_then servers a b f g h = record { from = h.from; to = h.to; apart = h.apart; brings = brings_then servers a b f.message g h.brings }
 
 abbrev pub AllSoundStates : ℕ → SessionStates → Type 0
@@ -99,10 +102,18 @@ first_between n skew term (Client s) (Client t) = refl
 
 first_tied : (n skew term : ℕ) → AreTied (first_served n skew term)
 first_tied n skew term = record {
-  posts = λ a post e. subst (λ (p : Links). IsPost a p) (sym (first_peer n skew term a post e)) (record { me = refl; width = refl; links = record { wide = omega arith; narrow = omega arith; ordered = refl }; own = refl });
+  posts = λ a post e. subst (λ (p : Links). IsPost a p) (sym (first_peer n skew term a post e)) (record {
+    me = refl;
+    width = refl;
+    links =
+        record { wide = omega arith; narrow = omega arith; ordered = refl };
+    own = refl;
+  });
   pairs = λ a b p q f e g.
-      subst (λ (x : Links). IsPair a b (link_with x b) (link_with q a) (between (first_served n skew term) a b) []) (sym (first_peer n skew term a p e))
-      (subst (λ (x : Links). IsPair a b (new_link link_width) (link_with x a) (between (first_served n skew term) a b) []) (sym (first_peer n skew term b q g))
+      subst (λ (x : Links). IsPair a b (link_with x b) (link_with q a) (between (first_served n skew term) a b) [])
+      (sym (first_peer n skew term a p e))
+      (subst (λ (x : Links). IsPair a b (new_link link_width) (link_with x a) (between (first_served n skew term) a b) [])
+      (sym (first_peer n skew term b q g))
       (subst (λ (ms : List Msg). IsPair a b (new_link link_width) (new_link link_width) ms []) (sym (first_between n skew term a b))
       (both_new a b [] (λ x i e f. absurd i) (λ x i e f. absurd i)).going));
   alone = λ a b p e g. ap (λ (x : Links). link_with x b) (first_peer n skew term a p e);
@@ -120,7 +131,9 @@ first_linked n skew term some few =
       some = omega (arith, len);
       few = omega (arith, len);
       ties = first_tied n skew term;
-      servers = λ k s e. subst (λ (m : ℕ). IsServed m empty k s) (sym len) (subst (λ (x : Core). IsServed n empty k x) (sym (first_core n k skew term s e)) (first_served_core n empty k skew term (omega arith)));
+      servers = λ k s e. subst (λ (m : ℕ). IsServed m empty k s) (sym len)
+          (subst (λ (x : Core). IsServed n empty k x) (sym (first_core n k skew term s e))
+          (first_served_core n empty k skew term (omega arith)));
       sessions = λ s state e. absurd (no_state state (sym e ∙ get-empty nat_cmp s.0));
       in_flight = λ f i. absurd i;
     }
@@ -133,7 +146,8 @@ first_state_sound servers s term some readable =
     let c = first_fine servers s term some in
     record { number = readable; session = refl; log = c.log; hints = c.hints; up = λ m i. absurd i; down = λ m i. absurd i }
 
-joins : (w : Served) (s : Session) (o : Option SessionState) → get w.sessions s.0 ≡ o → is_readable_session s ≡ true → IsLinked w → IsLinked (join_at o s w).world
+joins : (w : Served) (s : Session) (o : Option SessionState) → get w.sessions s.0 ≡ o → is_readable_session s ≡ true → IsLinked w
+    → IsLinked (join_at o s w).world
 joins w s None e readable h =
     let state = first_session_state w.term s in
     let n = length w.servers in

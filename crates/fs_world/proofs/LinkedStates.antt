@@ -1,5 +1,6 @@
 -- What stands at a session is put: what others see of it, and what happens to the links.
-use Rattle.std.proofs.Common.{◌≡◌, ◌∙◌, ◌<◌, ◌==◌, ℕ, Bool, true, false, List, [], ◌∷◌, ◌++◌, map, filter, Option, Some, None, refl, sym, ap, subst, cond, append-nil, arith}
+use Rattle.std.proofs.Common.{◌≡◌, ◌∙◌, ◌<◌, ◌==◌, ℕ, Bool, true, false, List, [], ◌∷◌, ◌++◌, map, filter, Option, Some, None, refl, sym}
+use Rattle.std.proofs.Common.{ap, subst, cond, append-nil, arith}
 use Rattle.std.specs.Cmp.{nat_cmp_total}
 use Rattle.std.specs.FinMap.{get, get-insert, insert, nat_cmp-IsAntisymmetric, same_map}
 use Rattle.std.specs.Ordering.{eq_by_cmp, nat_cmp}
@@ -62,9 +63,11 @@ turned_apart j k e = either (k == j) refl
 -- ## What is put at a session
 
 pub got_here : (sessions : SessionStates) (s : Session) (state : SessionState) → get (insert sessions s.0 state) s.0 ≡ Some state
-got_here sessions s state = get-insert nat_cmp_total sessions s.0 state s.0 ∙ ap (λ (b : Bool). cond b (Some state) (get sessions s.0)) (tied_self (Client s))
+got_here sessions s state =
+    get-insert nat_cmp_total sessions s.0 state s.0 ∙ ap (λ (b : Bool). cond b (Some state) (get sessions s.0)) (tied_self (Client s))
 
-pub got_there : (sessions : SessionStates) (s t : Session) (state : SessionState) → same_peer (Client t) (Client s) ≡ false → get (insert sessions s.0 state) t.0 ≡ get sessions t.0
+pub got_there : (sessions : SessionStates) (s t : Session) (state : SessionState) → same_peer (Client t) (Client s) ≡ false
+    → get (insert sessions s.0 state) t.0 ≡ get sessions t.0
 got_there sessions s t state e =
     get-insert nat_cmp_total sessions s.0 state t.0 ∙ ap (λ (b : Bool). cond b (Some state) (get sessions t.0)) e
 
@@ -83,7 +86,8 @@ put_same sessions s state h = same_map nat_cmp_total nat_cmp-IsAntisymmetric (in
 -- of two states that are put at one place the second stands there
 pub put_again : (sessions : SessionStates) (s : Session) (first second : SessionState)
     → insert (insert sessions s.0 first) s.0 second ≡ insert sessions s.0 second
-put_again sessions s first second = same_map nat_cmp_total nat_cmp-IsAntisymmetric (insert (insert sessions s.0 first) s.0 second) (insert sessions s.0 second) (λ (q : ℕ).
+put_again sessions s first second =
+    same_map nat_cmp_total nat_cmp-IsAntisymmetric (insert (insert sessions s.0 first) s.0 second) (insert sessions s.0 second) (λ (q : ℕ).
     get-insert nat_cmp_total (insert sessions s.0 first) s.0 second q
     ∙ ap (λ (o : Option SessionState). cond (eq_by_cmp nat_cmp q s.0) (Some second) o) (get-insert nat_cmp_total sessions s.0 first q)
     ∙ either (eq_by_cmp nat_cmp q s.0) (get sessions q)
@@ -94,7 +98,8 @@ put_again sessions s first second = same_map nat_cmp_total nat_cmp-IsAntisymmetr
     either false o = refl
 
 -- what is the same of two states is the same wherever one looks
-pub unseen : {X : Type 0} (f : Option SessionState → X) (sessions : SessionStates) (s : ℕ) (old new : SessionState) → f (Some new) ≡ f (Some old) → (t : ℕ) → f (get (insert sessions s new) t) ≡ f (get (insert sessions s old) t)
+pub unseen : {X : Type 0} (f : Option SessionState → X) (sessions : SessionStates) (s : ℕ) (old new : SessionState)
+    → f (Some new) ≡ f (Some old) → (t : ℕ) → f (get (insert sessions s new) t) ≡ f (get (insert sessions s old) t)
 unseen f sessions s old new e t =
     ap f (get-insert nat_cmp_total sessions s new t) ∙ either (eq_by_cmp nat_cmp t s)
     ∙ sym (ap f (get-insert nat_cmp_total sessions s old t))
@@ -107,13 +112,15 @@ unseen f sessions s old new e t =
 abbrev pub AtAll : (Session → SessionState → Type 0) → SessionStates → Type 0
 AtAll P sessions = (s : Session) (state : SessionState) → get sessions s.0 ≡ Some state → P s state
 
-pub all_put : (P : Session → SessionState → Type 0) (sessions : SessionStates) (s : Session) (state : SessionState) → P s state → AtAll P sessions → AtAll P (insert sessions s.0 state)
+pub all_put : (P : Session → SessionState → Type 0) (sessions : SessionStates) (s : Session) (state : SessionState) → P s state
+    → AtAll P sessions → AtAll P (insert sessions s.0 state)
 all_put P sessions s state here others t new e = either (same_peer (Client t) (Client s)) refl
   where
     either : (b : Bool) → same_peer (Client t) (Client s) ≡ b → P t new
     either true q =
         let is = session_is t s q in
-        let same : state ≡ new = some_is state new (sym (got_here sessions s state) ∙ ap (λ (x : Session). get (insert sessions s.0 state) x.0) (sym is) ∙ e) in
+        let same : state ≡ new =
+        some_is state new (sym (got_here sessions s state) ∙ ap (λ (x : Session). get (insert sessions s.0 state) x.0) (sym is) ∙ e) in
         subst (λ (x : Session). P x new) (sym is) (subst (λ (x : SessionState). P s x) same here)
     either false q = others t new (sym (got_there sessions s t state q) ∙ e)
 
@@ -144,16 +151,21 @@ module _ (w : Served) (s : Session) (old new : SessionState) (journal journal' :
 
   -- the same messages are on their way
   same_ways : new.up ≡ old.up → new.down ≡ old.down → (b c : Peer) → between after b c ≡ between before b c
-  same_ways up down (Client t) (Server k) = unseen (ups_of k) w.sessions s.0 old new (ap (λ (ms : List (ℕ × ClientMsg)). map (λ (m : ℕ × ClientMsg). msg.Client m.1) (filter (is_with k) ms)) up) t.0
-  same_ways up down (Server k) (Client t) = unseen (downs_of k) w.sessions s.0 old new (ap (λ (ms : List (ℕ × Answer)). map (λ (m : ℕ × Answer). msg.Answer m.1) (filter (is_with k) ms)) down) t.0
+  same_ways up down (Client t) (Server k) = unseen (ups_of k) w.sessions s.0 old new
+      (ap (λ (ms : List (ℕ × ClientMsg)). map (λ (m : ℕ × ClientMsg). msg.Client m.1) (filter (is_with k) ms)) up) t.0
+  same_ways up down (Server k) (Client t) = unseen (downs_of k) w.sessions s.0 old new
+      (ap (λ (ms : List (ℕ × Answer)). map (λ (m : ℕ × Answer). msg.Answer m.1) (filter (is_with k) ms)) down) t.0
   same_ways up down (Server j) (Server k) = refl
   same_ways up down (Client t) (Client u) = refl
 
   -- what is due goes out
-  pub session_due : (turn : Bool) (heard : Option Peer) → new.post ≡ (post_due old.post turn heard).links → packets' ≡ with_sent (post_due old.post turn heard).sent packets → new.up ≡ old.up → new.down ≡ old.down → IsHeard before (Client s) heard → AreTied before → AreTied after
+  pub session_due : (turn : Bool) (heard : Option Peer) → new.post ≡ (post_due old.post turn heard).links
+      → packets' ≡ with_sent (post_due old.post turn heard).sent packets → new.up ≡ old.up → new.down ≡ old.down
+      → IsHeard before (Client s) heard → AreTied before → AreTied after
   session_due turn heard post sent up down of h =
       tied_due (Client s) old.post turn heard before after (ap state_post (got_here w.sessions s old)) of
-      (subst (λ (p : Links). Changes (Client s) p before after (post_due old.post turn heard).sent) post (session_changes (post_due old.post turn heard).sent (ap (λ (p : Packets). p.sent) sent)))
+      (subst (λ (p : Links). Changes (Client s) p before after (post_due old.post turn heard).sent) post
+      (session_changes (post_due old.post turn heard).sent (ap (λ (p : Packets). p.sent) sent)))
       (same_ways up down) h
 
 -- ## A session sends
@@ -162,12 +174,15 @@ module _ (w : Served) (s : Session) (state : SessionState) (journal : List Item)
   abbrev sending : Option (ℕ × ClientMsg) → Served
   sending send = with_state s (record state { post = post_after send state.post; up = up_after send state.up }) journal packets w
 
-  one_sent : (m : ℕ × ClientMsg) (q : Links) → slice_get w.posts m.0 ≡ Some q → is_readable (msg.Client m.1) ≡ true → FitsUp (Some m) → is_full_up (Some m) state.post ≡ false → AreTied (with_state s state journal packets w) → AreTied (sending (Some m))
+  one_sent : (m : ℕ × ClientMsg) (q : Links) → slice_get w.posts m.0 ≡ Some q → is_readable (msg.Client m.1) ≡ true → FitsUp (Some m)
+      → is_full_up (Some m) state.post ≡ false → AreTied (with_state s state journal packets w) → AreTied (sending (Some m))
   one_sent m q there readable fits room h =
       let new : SessionState = record state { post = post_after (Some m) state.post; up = up_after (Some m) state.up } in
       let free = leb-false _ _ room in
-      tied_pushed (Client s) (Server m.0) state.post q (msg.Client m.1) (with_state s state journal packets w) (sending (Some m)) (ap state_post (got_here w.sessions s state)) there refl
-      (fits.fits readable) fits.short (omega (arith, free)) (session_changes w s state new journal journal packets packets [] (sym (append-nil packets.sent)))
+      tied_pushed (Client s) (Server m.0) state.post q (msg.Client m.1) (with_state s state journal packets w) (sending (Some m))
+      (ap state_post (got_here w.sessions s state)) there refl
+      (fits.fits readable) fits.short (omega (arith, free)) (session_changes w s state new journal journal packets packets []
+      (sym (append-nil packets.sent)))
       out back others h
     where
       f : ℕ × ClientMsg → Msg
@@ -177,19 +192,25 @@ module _ (w : Served) (s : Session) (state : SessionState) (journal : List Item)
       later = record state { post = post_after (Some m) state.post; up = state.up ++ m ∷ [] }
 
       out : ups_of m.0 (get (insert w.sessions s.0 later) s.0) ≡ ups_of m.0 (get (insert w.sessions s.0 state) s.0) ++ msg.Client m.1 ∷ []
-      out = ap (ups_of m.0) (got_here w.sessions s later) ∙ one_more f (is_with m.0) state.up m (itself m.0) ∙ ap (λ (o : Option SessionState). ups_of m.0 o ++ msg.Client m.1 ∷ []) (sym (got_here w.sessions s state))
+      out = ap (ups_of m.0) (got_here w.sessions s later) ∙ one_more f (is_with m.0) state.up m (itself m.0)
+          ∙ ap (λ (o : Option SessionState). ups_of m.0 o ++ msg.Client m.1 ∷ []) (sym (got_here w.sessions s state))
 
       back : downs_of m.0 (get (insert w.sessions s.0 later) s.0) ≡ downs_of m.0 (get (insert w.sessions s.0 state) s.0)
       back = unseen (downs_of m.0) w.sessions s.0 state later refl s.0
 
-      others : (c : Peer) → same_peer c (Server m.0) ≡ false → (between (sending (Some m)) (Client s) c ≡ between (with_state s state journal packets w) (Client s) c) × (between (sending (Some m)) c (Client s) ≡ between (with_state s state journal packets w) c (Client s))
+      others : (c : Peer) → same_peer c (Server m.0) ≡ false
+          → (between (sending (Some m)) (Client s) c ≡ between (with_state s state journal packets w) (Client s) c) × (between
+          (sending (Some m)) c (Client s) ≡ between (with_state s state journal packets w) c (Client s))
       others (Client t) e = (refl, refl)
       others (Server k) e = (
-        unseen (ups_of k) w.sessions s.0 state later (ap (λ (ms : List (ℕ × ClientMsg)). map f ms) (no_more (is_with k) state.up m (turned_apart k m.0 e))) s.0,
+        unseen (ups_of k) w.sessions s.0 state later
+            (ap (λ (ms : List (ℕ × ClientMsg)). map f ms) (no_more (is_with k) state.up m (turned_apart k m.0 e))) s.0,
         unseen (downs_of k) w.sessions s.0 state later refl s.0,
       )
 
-  pub session_sends : (servers : ℕ) (send : Option (ℕ × ClientMsg)) → ((k : ℕ) → k < servers → (q : Links) × (slice_get w.posts k ≡ Some q)) → SendsFine servers send → FitsUp send → is_full_up send state.post ≡ false → AreTied (with_state s state journal packets w) → AreTied (sending send)
+  pub session_sends : (servers : ℕ) (send : Option (ℕ × ClientMsg))
+      → ((k : ℕ) → k < servers → (q : Links) × (slice_get w.posts k ≡ Some q)) → SendsFine servers send → FitsUp send
+      → is_full_up send state.post ≡ false → AreTied (with_state s state journal packets w) → AreTied (sending send)
   session_sends servers None there fine fits room h = h
   session_sends servers (Some m) there fine fits room h = let q = there m.0 fine.0 in one_sent m q.0 q.1 fine.1 fits room h
 
@@ -199,15 +220,19 @@ none_left : {Y : Type 0} (joined : List Joined) → rest_of {X = Y} joined [] �
 none_left [] = refl
 none_left (j ∷ js) = refl
 
-rest_behind : {X Y : Type 0} (f : X → Y) (j : Joined) (js : List Joined) (xs : List X) → rest_of js (map f (behind xs)) ≡ rest_of (j ∷ js) (map f xs)
+rest_behind : {X Y : Type 0} (f : X → Y) (j : Joined) (js : List Joined) (xs : List X)
+    → rest_of js (map f (behind xs)) ≡ rest_of (j ∷ js) (map f xs)
 rest_behind f j js [] = none_left js
 rest_behind f j js (x ∷ xs) = refl
 
-pub rest_taken : {X Y : Type 0} (f : X → Y) (joined : List Joined) (is : X → Bool) (xs : List X) → map f (filter is (without_each joined is xs)) ≡ rest_of joined (map f (filter is xs))
+pub rest_taken : {X Y : Type 0} (f : X → Y) (joined : List Joined) (is : X → Bool) (xs : List X)
+    → map f (filter is (without_each joined is xs)) ≡ rest_of joined (map f (filter is xs))
 rest_taken f [] is xs = refl
-rest_taken {X} f (j ∷ js) is xs = rest_taken f js is (without_first is xs) ∙ ap (λ (ys : List X). rest_of js (map f ys)) (first_gone is xs) ∙ rest_behind f j js (filter is xs)
+rest_taken {X} f (j ∷ js) is xs = rest_taken f js is (without_first is xs) ∙ ap (λ (ys : List X). rest_of js (map f ys)) (first_gone is xs)
+    ∙ rest_behind f j js (filter is xs)
 
-pub others_taken : {X : Type 0} (joined : List Joined) (is other : X → Bool) (xs : List X) → ((x : X) → is x ≡ true → other x ≡ false) → filter other (without_each joined is xs) ≡ filter other xs
+pub others_taken : {X : Type 0} (joined : List Joined) (is other : X → Bool) (xs : List X) → ((x : X) → is x ≡ true → other x ≡ false)
+    → filter other (without_each joined is xs) ≡ filter other xs
 others_taken [] is other xs g = refl
 others_taken (j ∷ js) is other xs g = others_taken js is other (without_first is xs) g ∙ others_there is other xs g
 
@@ -218,11 +243,18 @@ with_other j k m e q = ap (λ (n : ℕ). n == j) (eqb-true m.0 k q) ∙ turned_a
 module _ (w : Served) (s : Session) (state : SessionState) (k : ℕ) (post : Links) (p : Packet) (journal : List Item)
     (packets : Packets) where
   abbrev accepting : Served
-  accepting = with_state s (record state { post = (post_accepted state.post (Server k) p).links; down = without_each (post_accepted state.post (Server k) p).heard.joined (is_with k) state.down }) journal packets w
+  accepting = with_state s (record state {
+    post = (post_accepted state.post (Server k) p).links;
+    down =
+        without_each (post_accepted state.post (Server k) p).heard.joined (is_with k) state.down;
+  }) journal packets w
 
-  pub session_accepts : slice_get w.posts k ≡ Some post → IsPacketOf (link_with post (Client s)).window (link_with state.post (Server k)).window p → AreTied (with_state s state journal packets w) → AreTied accepting
+  pub session_accepts : slice_get w.posts k ≡ Some post
+      → IsPacketOf (link_with post (Client s)).window (link_with state.post (Server k)).window p
+      → AreTied (with_state s state journal packets w) → AreTied accepting
   session_accepts there of h =
-      tied_accepted (Client s) (Server k) state.post post p (with_state s state journal packets w) accepting (ap state_post (got_here w.sessions s state)) there refl of
+      tied_accepted (Client s) (Server k) state.post post p (with_state s state journal packets w) accepting
+      (ap state_post (got_here w.sessions s state)) there refl of
       (session_changes w s state later journal journal packets packets [] (sym (append-nil packets.sent)))
       (unseen (ups_of k) w.sessions s.0 state later refl s.0) back others h
     where
@@ -236,19 +268,31 @@ module _ (w : Served) (s : Session) (state : SessionState) (k : ℕ) (post : Lin
       later = record state { post = (post_accepted state.post (Server k) p).links; down = without_each joined (is_with k) state.down }
 
       back : downs_of k (get (insert w.sessions s.0 later) s.0) ≡ rest_of joined (downs_of k (get (insert w.sessions s.0 state) s.0))
-      back = ap (downs_of k) (got_here w.sessions s later) ∙ rest_taken f joined (is_with k) state.down ∙ ap (λ (o : Option SessionState). rest_of joined (downs_of k o)) (sym (got_here w.sessions s state))
+      back = ap (downs_of k) (got_here w.sessions s later) ∙ rest_taken f joined (is_with k) state.down
+          ∙ ap (λ (o : Option SessionState). rest_of joined (downs_of k o)) (sym (got_here w.sessions s state))
 
-      others : (c : Peer) → same_peer c (Server k) ≡ false → (between accepting (Client s) c ≡ between (with_state s state journal packets w) (Client s) c) × (between accepting c (Client s) ≡ between (with_state s state journal packets w) c (Client s))
+      others : (c : Peer) → same_peer c (Server k) ≡ false
+          → (between accepting (Client s) c ≡ between (with_state s state journal packets w) (Client s) c) × (between accepting c
+          (Client s) ≡ between (with_state s state journal packets w) c (Client s))
       others (Client t) e = (refl, refl)
       others (Server j) e = (
         unseen (ups_of j) w.sessions s.0 state later refl s.0,
-        unseen (downs_of j) w.sessions s.0 state later (ap (λ (ms : List (ℕ × Answer)). map f ms) (others_taken joined (is_with k) (is_with j) state.down (λ m q. with_other j k m e q))) s.0,
+        unseen (downs_of j) w.sessions s.0 state later
+            (ap (λ (ms : List (ℕ × Answer)). map f ms)
+            (others_taken joined (is_with k) (is_with j) state.down (λ m q. with_other j k m e q))) s.0,
       )
 
 -- ## A session joins
 
-pub session_joins : (w : Served) (s : Session) (term : ℕ) → get w.sessions s.0 ≡ None → AreTied w → AreTied (record w { sessions = insert w.sessions s.0 (first_session_state term s) })
-session_joins w s term none h = tied_joined (Client s) w now (ap state_post none) (record { here = ap state_post (got_here w.sessions s state); there = there; ways = ways; packets = sym (append-nil w.packets.sent) }) empty h
+pub session_joins : (w : Served) (s : Session) (term : ℕ) → get w.sessions s.0 ≡ None → AreTied w
+    → AreTied (record w { sessions = insert w.sessions s.0 (first_session_state term s) })
+session_joins w s term none h = tied_joined (Client s) w now (ap state_post none) (record {
+  here =
+      ap state_post (got_here w.sessions s state);
+  there = there;
+  ways = ways;
+  packets = sym (append-nil w.packets.sent);
+}) empty h
   where
     state : SessionState
     state = first_session_state term s

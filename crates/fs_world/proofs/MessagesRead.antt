@@ -29,7 +29,8 @@ op_readable (op.Rename sdir sname ddir dname) h = refl
 
 entries_readable : (es : List Entry) → AllByRecursion FitsEntry es → list_all is_readable_entry es ≡ true
 entries_readable [] h = refl
-entries_readable (e ∷ es) h = both_joined (is_readable_entry e) (list_all is_readable_entry es) (op_readable e.op h.0.op) (entries_readable es h.1)
+entries_readable (e ∷ es) h =
+    both_joined (is_readable_entry e) (list_all is_readable_entry es) (op_readable e.op h.0.op) (entries_readable es h.1)
 
 pub message_readable : (m : ClientMsg) → FitsMessage (msg.Client m) → is_readable (msg.Client m) ≡ true
 message_readable (client.Ask items fresh) h = refl

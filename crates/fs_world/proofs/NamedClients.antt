@@ -40,8 +40,9 @@ use Rattle.fs_client.specs.declared.led.Led.{Led}
 use Rattle.fs_client.specs.declared.plan.Plan.{Plan}
 use Rattle.fs_client.specs.declared.plan.Ready.{Ready}
 use Rattle.fs_client.specs.declared.state.Client.{Client}
-use Rattle.fs_client.specs.Acts.{act_on, act_plan, answer_with, answers, ask_for, asks, full_one, hinted, need_file, stays, unless_led, with_id, worth}
-use Rattle.fs_client.specs.Answers.{answer_plan, ended_plan, fits, hear, hints_told, led_plan, strange, told}
+use Rattle.fs_client.specs.Acts.{act_on, act_plan, answer_with, answers, ask_for, asks, full_one, hinted, need_file, stays, unless_led}
+use Rattle.fs_client.specs.Acts.{with_id, worth}
+use Rattle.fs_client.specs.Answers.{answer_plan, ended_plan, fits, hear, hints_told, led_plan, strange, fitting_plan}
 use Rattle.fs_client.specs.Client.{admitted_all, admitted_one, begun, changed, committed, first_client, with_hints}
 use Rattle.fs_client.specs.Led.{hints_again}
 use Rattle.fs_client.specs.Turns.{ending, entries_at, idle, release_some, renew_some, returned, ship_some, turn_free, turn_on, turn_plan}
@@ -122,7 +123,8 @@ hinted_fine servers None c own h = h
 hinted_fine servers (Some hints) c own h = record { log = h.log; hints = own }
 
 -- the client to which the plan is committed
-pub committed_fine : {N : Type 0} (servers : ℕ) (p : Plan N) (c : Client) → IsPlanned servers p → IsFine servers c → IsFine servers (committed p.ready c)
+pub committed_fine : {N : Type 0} (servers : ℕ) (p : Plan N) (c : Client) → IsPlanned servers p → IsFine servers c
+    → IsFine servers (committed p.ready c)
 committed_fine servers p c r h =
     let b = begun p.ready.now c in
     hinted_fine servers p.ready.hints (changed p.ready.change b) r.hints (record {
@@ -130,7 +132,8 @@ committed_fine servers p c r h =
       hints = subst (AreNamed servers) (sym (keeps p.ready.change b).1) h.hints;
     })
 
-either_planned : {N : Type 0} (servers : ℕ) (b : Bool) (p q : Plan N) → IsPlanned servers p → IsPlanned servers q → IsPlanned servers (cond b p q)
+either_planned : {N : Type 0} (servers : ℕ) (b : Bool) (p q : Plan N) → IsPlanned servers p → IsPlanned servers q
+    → IsPlanned servers (cond b p q)
 either_planned servers true p q h g = h
 either_planned servers false p q h g = g
 
@@ -155,7 +158,8 @@ module _ (servers : ℕ) (some : 0 < servers) where
   ask_planned : (needs ns : List Need) (c : Client) → IsFine servers c → IsPlanned servers (ask_for needs ns c)
   ask_planned needs [] c h = full_planned needs c
   ask_planned needs (n ∷ ns) c h =
-      either_planned servers (is_some c.exchange) (stays (act.Busy busy.Exchange) c) (asks (hinted c (need_file n)) (n ∷ ns) c) (record { joins = tt; hints = tt; sends = tt })
+      either_planned servers (is_some c.exchange) (stays (act.Busy busy.Exchange) c) (asks (hinted c (need_file n)) (n ∷ ns) c)
+      (record { joins = tt; hints = tt; sends = tt })
       (record { joins = tt; hints = tt; sends = (hinted_there c (need_file n) h, refl) })
 
   as_it_is : (o : Op) → may_ask o ≡ true → is_readable_op o ≡ true
@@ -163,11 +167,13 @@ module _ (servers : ℕ) (some : 0 < servers) where
   as_it_is (op.Reap file session) h = absurd (cc)
   as_it_is o h = refl
 
-  end_planned : (r : Reply) (o : Op) (c : Client) → may_ask o ≡ true → IsFine servers c → (p : Plan Act) → AnswerEnds o r c p → IsPlanned servers p
+  end_planned : (r : Reply) (o : Op) (c : Client) → may_ask o ≡ true → IsFine servers c → (p : Plan Act) → AnswerEnds o r c p
+      → IsPlanned servers p
   end_planned r o c may h p (as_entry t) = record { joins = op_readable c.view c.last o r may; hints = tt; sends = tt }
   end_planned r o c may h p (as_read t n e) = record { joins = tt; hints = tt; sends = tt }
   end_planned r o c may h p (as_move t n e) = record { joins = tt; hints = tt; sends = tt }
-  end_planned r o c may h p (as_led t l x e moved k) = record { joins = tt; hints = tt; sends = (hinted_there c (home_of o) h, as_it_is o may) }
+  end_planned r o c may h p (as_led t l x e moved k) =
+      record { joins = tt; hints = tt; sends = (hinted_there c (home_of o) h, as_it_is o may) }
   end_planned r o c may h p (put_off what) = record { joins = tt; hints = tt; sends = tt }
   end_planned r o c may h p not_told = record { joins = tt; hints = tt; sends = tt }
 
@@ -188,17 +194,20 @@ module _ (servers : ℕ) (some : 0 < servers) where
 
   -- ## A turn
 
-  log_passes : (c : Client) (to : ℕ) (log : List Entry) → AllByRecursion HasReadable log → list_all is_readable_entry (entries_at c to log) ≡ true
+  log_passes : (c : Client) (to : ℕ) (log : List Entry) → AllByRecursion HasReadable log
+      → list_all is_readable_entry (entries_at c to log) ≡ true
   log_passes c to [] h = refl
   log_passes c to (e ∷ log) h = either (hinted c (home_of e.op) == to) (log_passes c to log h.1)
     where
-      either : (b : Bool) → list_all is_readable_entry (entries_at c to log) ≡ true → list_all is_readable_entry (cond b (e ∷ entries_at c to log) []) ≡ true
+      either : (b : Bool) → list_all is_readable_entry (entries_at c to log) ≡ true
+          → list_all is_readable_entry (cond b (e ∷ entries_at c to log) []) ≡ true
       either true rest = joined _ _ h.0 rest
       either false rest = refl
 
   ship_planned : (log : List Entry) (c : Client) → AllByRecursion HasReadable log → IsFine servers c → IsPlanned servers (ship_some log c)
   ship_planned [] c log h = record { joins = tt; hints = tt; sends = tt }
-  ship_planned (e ∷ es) c log h = record { joins = tt; hints = tt; sends = (hinted_there c (home_of e.op) h, log_passes c (hinted c (home_of e.op)) (e ∷ es) log) }
+  ship_planned (e ∷ es) c log h =
+      record { joins = tt; hints = tt; sends = (hinted_there c (home_of e.op) h, log_passes c (hinted c (home_of e.op)) (e ∷ es) log) }
 
   renew_planned : (ks : List ViewLease) (c : Client) → IsFine servers c → IsPlanned servers (renew_some ks c)
   renew_planned [] c h = record { joins = tt; hints = tt; sends = tt }
@@ -211,7 +220,8 @@ module _ (servers : ℕ) (some : 0 < servers) where
   turn_planned : (c : Client) → IsFine servers c → IsPlanned servers (turn_on c)
   turn_planned c h =
       either_planned servers (is_some c.exchange) (idle c) (turn_free c) (record { joins = tt; hints = tt; sends = tt })
-      (either_planned servers (not (is_empty c.log) && not (is_some c.over)) (ship_some c.log c) (release_some (returned c.view) c) (ship_planned c.log c h.log h) (release_planned (returned c.view) c h))
+      (either_planned servers (not (is_empty c.log) && not (is_some c.over)) (ship_some c.log c) (release_some (returned c.view) c)
+      (ship_planned c.log c h.log h) (release_planned (returned c.view) c h))
 
   pub turn_fine : (c : Client) (now : ℕ) → IsFine servers c → IsPlanned servers (turn_plan c now)
   turn_fine c now h = turn_planned (begun now c) (record { log = h.log; hints = h.hints })
@@ -235,11 +245,12 @@ module _ (servers : ℕ) (some : 0 < servers) where
   ended_planned l (led_end.Ended lease until now) c named h = record { joins = tt; hints = tt; sends = tt }
   ended_planned l (led_end.Again w) c named h = record { joins = tt; hints = why_hints w c named h; sends = tt }
 
-  led_planned : (led : Option Led) (e : LedEnd) (c : Client) → IsNamedLed servers e → IsFine servers c → IsPlanned servers (led_plan led e c)
+  led_planned : (led : Option Led) (e : LedEnd) (c : Client) → IsNamedLed servers e → IsFine servers c
+      → IsPlanned servers (led_plan led e c)
   led_planned None e c named h = record { joins = tt; hints = tt; sends = tt }
   led_planned (Some l) e c named h = ended_planned l e c named h
 
-  told_planned : (a : Answer) (c : Client) → IsNamedAnswer servers a → IsFine servers c → IsPlanned servers (told a c)
+  told_planned : (a : Answer) (c : Client) → IsNamedAnswer servers a → IsFine servers c → IsPlanned servers (fitting_plan a c)
   told_planned (answer_.Granted gs fresh e) c named h = record { joins = tt; hints = told_hints e c named h; sends = tt }
   told_planned (answer_.Renewed rows e) c named h = record { joins = tt; hints = told_hints e c named h; sends = tt }
   told_planned (answer_.Released count e) c named h = record { joins = tt; hints = told_hints e c named h; sends = tt }
@@ -248,9 +259,11 @@ module _ (servers : ℕ) (some : 0 < servers) where
   told_planned (answer_.Recall number) c named h = record { joins = tt; hints = tt; sends = tt }
 
   hear_planned : (from : ℕ) (a : Answer) (c : Client) → IsNamedAnswer servers a → IsFine servers c → IsPlanned servers (hear from a c)
-  hear_planned from a c named h = either_planned servers (fits from c.exchange a c) (told a c) (strange c) (told_planned a c named h) (record { joins = tt; hints = tt; sends = tt })
+  hear_planned from a c named h = either_planned servers (fits from c.exchange a c) (fitting_plan a c) (strange c)
+      (told_planned a c named h) (record { joins = tt; hints = tt; sends = tt })
 
-  pub answer_fine : (c : Client) (now from : ℕ) (a : Answer) → IsNamedAnswer servers a → IsFine servers c → IsPlanned servers (answer_plan c now from a)
+  pub answer_fine : (c : Client) (now from : ℕ) (a : Answer) → IsNamedAnswer servers a → IsFine servers c
+      → IsPlanned servers (answer_plan c now from a)
   answer_fine c now from a named h = hear_planned from a (begun now c) named (record { log = h.log; hints = h.hints })
 
 ended_silent : (l : Led) (e : LedEnd) (c : Client) → (ended_plan l e c).out.send ≡ None
@@ -263,7 +276,7 @@ led_silent None e c = refl
 led_silent (Some l) e c = ended_silent l e c
 
 -- a client answers no answer
-told_silent : (a : Answer) (c : Client) → (told a c).out.send ≡ None
+told_silent : (a : Answer) (c : Client) → (fitting_plan a c).out.send ≡ None
 told_silent (answer_.Granted gs fresh e) c = refl
 told_silent (answer_.Renewed rows e) c = refl
 told_silent (answer_.Released count e) c = refl
@@ -274,7 +287,7 @@ told_silent (answer_.Recall number) c = refl
 pub answer_silent : (c : Client) (now from : ℕ) (a : Answer) → (answer_plan c now from a).out.send ≡ None
 answer_silent c now from a = either (fits from (begun now c).exchange a (begun now c))
   where
-    either : (b : Bool) → (cond b (told a (begun now c)) (strange (begun now c))).out.send ≡ None
+    either : (b : Bool) → (cond b (fitting_plan a (begun now c)) (strange (begun now c))).out.send ≡ None
     either true = told_silent a (begun now c)
     either false = refl
 
@@ -288,7 +301,7 @@ led_admits None e c = refl
 led_admits (Some l) e c = ended_admits l e c
 
 -- nor does it admit anything at once
-told_admits : (a : Answer) (c : Client) → (told a c).out.admitted ≡ None
+told_admits : (a : Answer) (c : Client) → (fitting_plan a c).out.admitted ≡ None
 told_admits (answer_.Granted gs fresh e) c = refl
 told_admits (answer_.Renewed rows e) c = refl
 told_admits (answer_.Released count e) c = refl
@@ -299,6 +312,6 @@ told_admits (answer_.Recall number) c = refl
 pub answer_admits : (c : Client) (now from : ℕ) (a : Answer) → (answer_plan c now from a).out.admitted ≡ None
 answer_admits c now from a = either (fits from (begun now c).exchange a (begun now c))
   where
-    either : (b : Bool) → (cond b (told a (begun now c)) (strange (begun now c))).out.admitted ≡ None
+    either : (b : Bool) → (cond b (fitting_plan a (begun now c)) (strange (begun now c))).out.admitted ≡ None
     either true = told_admits a (begun now c)
     either false = refl

@@ -37,7 +37,8 @@ use Rattle.fs_txn.specs.declared.leader.Leader.{Leader}
 use Rattle.fs_txn.specs.declared.leading.Ending.{Ending}
 use Rattle.fs_txn.specs.declared.leading.Leading.{Leading}
 use Rattle.fs_wire.specs.Readable.{is_readable_effect}
-use Rattle.fs_world.specs.Linked.{IsEndingOf, IsLeadingOf, IsNamedLed, IsNamedVote}
+use Rattle.fs_serial.specs.Places.{VoteNames}
+use Rattle.fs_world.specs.Linked.{IsEndingOf, IsLeadingOf, IsNamedLed}
 use Rattle.fs_world.specs.Served.{SessionStates}
 use Rattle.fs_world.proofs.OpenHandles.{AddsOpen, each_both, each_left}
 use Rattle.fs_world.proofs.SeenRows.{AreOf}
@@ -127,9 +128,9 @@ own_tellable me l d h = all (own_parts me l)
 
 -- the votes name only servers that there are
 abbrev pub AreNamedVotes : ℕ → Votes → Type 0
-AreNamedVotes servers votes = (v : Vote) → In (Some v) votes → IsNamedVote servers v
+AreNamedVotes servers votes = (v : Vote) → In (Some v) votes → VoteNames servers v
 
-vote_ends : (servers : ℕ) (v : Vote) → IsNamedVote servers v → IfSome (end_of_vote v) (IsNamedLed servers)
+vote_ends : (servers : ℕ) (v : Vote) → VoteNames servers v → IfSome (end_of_vote v) (IsNamedLed servers)
 vote_ends servers Yes h = tt
 vote_ends servers (Ended lease until now) h = tt
 vote_ends servers (PathsOut lease) h = tt
@@ -160,15 +161,15 @@ decision_ends servers l h = unless (first_end l.votes) (agreed l None) (votes_en
 
 -- ## Votes
 
-set_named : (servers : ℕ) (votes : Votes) (number : ℕ) (v : Vote) → IsNamedVote servers v → AreNamedVotes servers votes
+set_named : (servers : ℕ) (votes : Votes) (number : ℕ) (v : Vote) → VoteNames servers v → AreNamedVotes servers votes
     → AreNamedVotes servers (slice_set votes number (Some v))
-set_named servers votes number v named h w i = elim (In_set votes number (Some v) (Some w) i) as (λ _. IsNamedVote servers w) [
-  | inl e ↦ let is : v ≡ w = cc in subst (IsNamedVote servers) is named
+set_named servers votes number v named h w i = elim (In_set votes number (Some v) (Some w) i) as (λ _. VoteNames servers w) [
+  | inl e ↦ let is : v ≡ w = cc in subst (VoteNames servers) is named
   | inr j ↦ h w j
 ]
 
 -- with one more
-pub votes_named : (servers : ℕ) (votes : Votes) (number : ℕ) (v : Vote) → IsNamedVote servers v → AreNamedVotes servers votes
+pub votes_named : (servers : ℕ) (votes : Votes) (number : ℕ) (v : Vote) → VoteNames servers v → AreNamedVotes servers votes
     → AreNamedVotes servers (votes_after votes number v)
 votes_named servers votes number (Moved prefix to) named h w i = h w i
 votes_named servers votes number Yes named h w i = set_named servers votes number Yes named h w i

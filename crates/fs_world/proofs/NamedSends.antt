@@ -15,7 +15,7 @@ use Rattle.fs_msg.specs.Readable.{is_readable, is_readable_answer, is_readable_p
 use Rattle.fs_msg.specs.declared.msg.Msg.{Msg}
 use Rattle.fs_msg.specs.declared.msg.Msg.TheVariants as msg
 use Rattle.fs_msg.specs.declared.peer_msg.PeerMsg.{PeerMsg}
-use Rattle.fs_msg.specs.declared.peer_msg.PeerMsg.TheVariants.{Parcel as OfParcel, Prepare, Vote, Decide, Done}
+use Rattle.fs_msg.specs.declared.peer_msg.PeerMsg.TheVariants.{Parcel as OfParcel, Prepare, Decide}
 use Rattle.fs_record.specs.Records.{IsRecord}
 use Rattle.fs_record.specs.declared.parcel.Parcel.{Parcel}
 use Rattle.fs_record.specs.declared.record.Record.{Record}
@@ -76,9 +76,8 @@ peer_readable : (servers : ℕ) (sessions : SessionStates) (m : PeerMsg)
     → ((s : Session) → HasJoined sessions s → is_readable_session s ≡ true) → Brings servers sessions m → is_readable (msg.Peer m) ≡ true
 peer_readable servers sessions (OfParcel p) readable h = parcel_readable sessions p readable h
 peer_readable servers sessions (Prepare m) readable h = readable m.session h
-peer_readable servers sessions (Vote m) readable h = refl
 peer_readable servers sessions (Decide m) readable h = h
-peer_readable servers sessions (Done m) readable h = refl
+peer_readable servers sessions m readable h = refl
 
 pub sent_readable : (servers : ℕ) (sessions : SessionStates) (k : ℕ) (x : Peer × Msg)
     → ((s : Session) → HasJoined sessions s → is_readable_session s ≡ true) → IsSent servers sessions k x → is_readable x.1 ≡ true
@@ -101,7 +100,16 @@ module _ (servers : ℕ) (sessions : SessionStates) (k : ℕ) where
   -- with other rows
   pub with_others : (s : Core) (rows : List Row) → Fine s → AreOf (HasJoined sessions) rows → Fine (record s { rows = rows })
   with_others s rows h g =
-      record { me = h.me; named = h.named; records = h.records; handles = h.handles; rows = g; leading = h.leading; ending = h.ending }
+      record {
+        me = h.me;
+        pathless = h.pathless;
+        named = h.named;
+        records = h.records;
+        handles = h.handles;
+        rows = g;
+        leading = h.leading;
+        ending = h.ending;
+      }
 
   pub strange_goes : (s : Core) → Fine s → Goes (strange s)
   strange_goes s h = record { server = h; sends = tt }

@@ -1,5 +1,5 @@
 -- What a server that leads operations, or has parts of them, has and sends at each step.
-use Rattle.std.proofs.Common.{◌≡◌, ◌≢◌, ◌<◌, ℕ, ◌+◌, Bool, true, false, List, [], ◌∷◌, ◌++◌, map, Option, Some, None, refl, sym, subst}
+use Rattle.std.proofs.Common.{◌≡◌, ◌≢◌, ◌<◌, ℕ, ◌+◌, Bool, true, false, List, [], ◌∷◌, ◌++◌, Option, Some, None, refl, sym, subst}
 use Rattle.std.proofs.Common.{cond, inl, inr, arith}
 use Rattle.std.specs.List.{AllByRecursion, list_all}
 use Rattle.std.specs.Prelude.{◌==◌, filter, slice_get}
@@ -49,8 +49,9 @@ use Rattle.fs_txn.specs.declared.leading.Ending.{Ending}
 use Rattle.fs_txn.specs.declared.leading.Leading.{Leading}
 use Rattle.fs_txn.specs.declared.ready.Ready.{Ready}
 use Rattle.fs_wire.specs.Readable.{is_readable_effect}
+use Rattle.fs_serial.specs.Places.{VoteNames}
 use Rattle.fs_world.specs.Served.{SessionStates}
-use Rattle.fs_world.specs.Linked.{Brings, HasJoined, IsEndingOf, IsLeadingOf, IsNamedLed, IsNamedVote, IsServed}
+use Rattle.fs_world.specs.Linked.{Brings, HasJoined, IsEndingOf, IsLeadingOf, IsNamedLed, IsServed}
 use Rattle.fs_world.proofs.NamedLeading.{AreNamedVotes, TellsOpen, decision_ends, decision_tells, elsewhere_at, ending_more, leading_less}
 use Rattle.fs_world.proofs.NamedLeading.{leading_more, own_tellable, read_open, relocked_of, tellable_open, tellable_read, votes_named}
 use Rattle.fs_world.proofs.NamedMaps.{server_named}
@@ -73,7 +74,7 @@ module _ (servers : ℕ) (sessions : SessionStates) (k : ℕ) (some : k < server
   map_named : (s : Core) (id : List ℕ) → Fine s → server_of s.map id < servers
   map_named s id h = server_named servers s.map id (omega (arith, some)) h.named
 
-  vote_fine : (by : Session) (p : Part) (s : Core) → Fine s → IsNamedVote servers (vote_here s by p)
+  vote_fine : (by : Session) (p : Part) (s : Core) → Fine s → VoteNames servers (vote_here s by p)
   vote_fine by p s h = vote_names servers s by p (λ id. map_named s id h)
 
   -- a message to another server
@@ -115,6 +116,7 @@ module _ (servers : ℕ) (sessions : SessionStates) (k : ℕ) (some : k < server
       record {
         server = record {
           me = h.me;
+          pathless = h.pathless;
           named = h.named;
           records = after_all_kept s.records es h.records;
           handles = open_after_all s.records es (tellable_open es (own_tellable s.me l d plain)) h.handles;
@@ -134,6 +136,7 @@ module _ (servers : ℕ) (sessions : SessionStates) (k : ℕ) (some : k < server
   wait_goes n l sent s own sends h = record {
     server = record {
       me = h.me;
+      pathless = h.pathless;
       named = h.named;
       records = h.records;
       handles = h.handles;
@@ -159,9 +162,9 @@ module _ (servers : ℕ) (sessions : SessionStates) (k : ℕ) (some : k < server
     at : (j : ℕ) → In j r.at → j < servers
     sends : AreSent servers sessions k r.send
 
-  one_vote : (votes : Votes) (v : Option Vote) → ((w : Vote) → v ≡ Some w → IsNamedVote servers w) → AreNamedVotes servers votes
+  one_vote : (votes : Votes) (v : Option Vote) → ((w : Vote) → v ≡ Some w → VoteNames servers w) → AreNamedVotes servers votes
       → AreNamedVotes servers (votes ++ v ∷ [])
-  one_vote votes v named h w i = In-more (Some w) votes v (IsNamedVote servers w) (λ j. h w j) (λ e. named w (sym e)) i
+  one_vote votes v named h w i = In-more (Some w) votes v (VoteNames servers w) (λ j. h w j) (λ e. named w (sym e)) i
 
   one_place : (at : List ℕ) (to : ℕ) → to < servers → ((j : ℕ) → In j at → j < servers) → (j : ℕ) → In j (at ++ to ∷ []) → j < servers
   one_place at to few h j i = In-more j at to (j < servers) (λ q. h j q) (λ e. subst (λ (n : ℕ). n < servers) (sym e) few) i
@@ -173,7 +176,7 @@ module _ (servers : ℕ) (sessions : SessionStates) (k : ℕ) (some : k < server
         server = relocked_fine r.server (rows_voted v txn p.uses r.server.rows) (voted_so v txn p.uses r.server.rows) h.server;
         votes =
             one_vote r.votes (Some v)
-            (λ w e. let is : v ≡ w = cc in subst (IsNamedVote servers) is (vote_fine by p r.server h.server)) h.votes;
+            (λ w e. let is : v ≡ w = cc in subst (VoteNames servers) is (vote_fine by p r.server h.server)) h.votes;
         at = one_place r.at r.server.me (subst (λ (n : ℕ). n < servers) (sym h.server.me) some) h.at;
         sends = h.sends;
       }
@@ -209,6 +212,7 @@ module _ (servers : ℕ) (sessions : SessionStates) (k : ℕ) (some : k < server
   begin_goes by m s of h =
       let fine : Fine (first_round s).server = record {
         me = h.me;
+        pathless = h.pathless;
         named = h.named;
         records = h.records;
         handles = h.handles;
@@ -241,7 +245,7 @@ module _ (servers : ℕ) (sessions : SessionStates) (k : ℕ) (some : k < server
       wait_goes (note.Seeks l.leader.txn to) (asked_at number to l) (to_server to (ask_for l.leader.txn number l.leader.session p) ∷ []) s
       (asked_there number to l few own) (sends_one to (ask_for l.leader.txn number l.leader.session p) few apart own.session) h
 
-  count_goes : (number : ℕ) (v : Vote) (l : Leading) (s : Core) → IsNamedVote servers v → IsLeadingOf servers sessions l → Fine s
+  count_goes : (number : ℕ) (v : Vote) (l : Leading) (s : Core) → VoteNames servers v → IsLeadingOf servers sessions l → Fine s
       → Goes (counts number v l s)
   count_goes number v l s named own h =
       on_goes (note.Waits l.leader.txn) (with_vote number v l) [] s
@@ -271,14 +275,14 @@ module _ (servers : ℕ) (sessions : SessionStates) (k : ℕ) (some : k < server
       at true e = home_goes number p l s own h
       at false e = seek_goes number to p l s few (differ servers sessions k to s h e) own h
 
-  voted_goes : (number : ℕ) (v : Vote) (l : Leading) (s : Core) → IsNamedVote servers v → IsLeadingOf servers sessions l → Fine s
+  voted_goes : (number : ℕ) (v : Vote) (l : Leading) (s : Core) → VoteNames servers v → IsLeadingOf servers sessions l → Fine s
       → Goes (voted number v l s)
   voted_goes number (vote.Moved prefix to) l s named own h = sent_on_goes number to (slice_get l.leader.parts number) l s named own h
   voted_goes number vote.Yes l s named own h = count_goes number vote.Yes l s named own h
   voted_goes number (vote.Ended lease until now) l s named own h = count_goes number (vote.Ended lease until now) l s named own h
   voted_goes number (vote.PathsOut lease) l s named own h = count_goes number (vote.PathsOut lease) l s named own h
 
-  pub vote_goes : (m : Voted) (s : Core) → IsNamedVote servers m.vote → Fine s → Goes (vote_step m s)
+  pub vote_goes : (m : Voted) (s : Core) → VoteNames servers m.vote → Fine s → Goes (vote_step m s)
   vote_goes m s named h = at (leading_of m.txn s.leading) refl
     where
       at : (o : Option Leading) → leading_of m.txn s.leading ≡ o → Goes (vote_of o m s)
@@ -294,6 +298,7 @@ module _ (servers : ℕ) (sessions : SessionStates) (k : ℕ) (some : k < server
   done_goes x [] s own h = record {
     server = record {
       me = h.me;
+      pathless = h.pathless;
       named = h.named;
       records = h.records;
       handles = h.handles;
@@ -306,6 +311,7 @@ module _ (servers : ℕ) (sessions : SessionStates) (k : ℕ) (some : k < server
   done_goes x (y ∷ ys) s own h = record {
     server = record {
       me = h.me;
+      pathless = h.pathless;
       named = h.named;
       records = h.records;
       handles = h.handles;
@@ -335,6 +341,7 @@ module _ (servers : ℕ) (sessions : SessionStates) (k : ℕ) (some : k < server
       let fine : Fine (record s { rows = rows }) = relocked_fine s rows (locked_so x.txn x.part.uses s.rows) h in
       record {
         me = fine.me;
+        pathless = fine.pathless;
         named = fine.named;
         records = fine.records;
         handles = fine.handles;
@@ -364,6 +371,7 @@ module _ (servers : ℕ) (sessions : SessionStates) (k : ℕ) (some : k < server
       (record {
         server = record {
           me = h.me;
+          pathless = h.pathless;
           named = h.named;
           records = after_all_kept applied takes (after_all_kept s.records puts h.records);
           handles =

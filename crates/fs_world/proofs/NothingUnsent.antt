@@ -36,7 +36,8 @@ use Rattle.fs_world.specs.Packets.{Packets, first_undelivered}
 use Rattle.fs_world.specs.Refusals.{HasNone, is_link_strange}
 use Rattle.fs_world.specs.Served as served
 use Rattle.fs_world.specs.Calls.{client_hears, server_heard}
-use Rattle.fs_world.specs.Served.{SessionStepped, ServerStepped, arrives, at_server, comes, do_at, join_at, server_step_at, server_receive_packet_at, tell, tell_at, client_receive_packet_at, turn_at, without_joined}
+use Rattle.fs_world.specs.Served.{SessionStepped, ServerStepped, arrives, at_server, comes, do_at, join_at, server_step_at}
+use Rattle.fs_world.specs.Served.{server_receive_packet_at, tell, tell_at, client_receive_packet_at, turn_at, without_joined}
 use Rattle.fs_world.specs.World.{step}
 use Rattle.fs_world.specs.declared.direct.world.Direct.{Direct as TheDirect}
 use Rattle.fs_world.specs.declared.form.Form.{Form}
@@ -56,28 +57,35 @@ IsPlain o = HasNone is_link_strange o
 quiet_plain : (h : Heard) → is_link_strange (quiet_note h) ≡ false
 quiet_plain h = elim (h.fresh == 0) as (λ (b : Bool). is_link_strange (cond b note.None note.Part) ≡ false) [ true ↦ refl | false ↦ refl ]
 
-answers_plain : (now k : ℕ) (answers : List Answer) (c : ClientCore) → AllByRecursion (λ (n : Note). is_link_strange n ≡ false) (notes_all now k answers c)
+answers_plain : (now k : ℕ) (answers : List Answer) (c : ClientCore)
+    → AllByRecursion (λ (n : Note). is_link_strange n ≡ false) (notes_all now k answers c)
 answers_plain now k [] c = tt
 answers_plain now k (a ∷ answers) c = (refl, answers_plain now k answers (committed (answer_plan c now k a).ready c))
 
-heard_plain : (h : Heard) (now k : ℕ) (answers : List Answer) (c : ClientCore) → AllByRecursion (λ (n : Note). is_link_strange n ≡ false) (heard_notes h now k answers c)
+heard_plain : (h : Heard) (now k : ℕ) (answers : List Answer) (c : ClientCore)
+    → AllByRecursion (λ (n : Note). is_link_strange n ≡ false) (heard_notes h now k answers c)
 heard_plain h now k [] c = (quiet_plain h, tt)
 heard_plain h now k (a ∷ answers) c = answers_plain now k (a ∷ answers) c
 
-client_plain : (now : ℕ) (s : Session) (k : ℕ) (from : Option Peer) (h : Heard) (state : SessionState) (journal : List Item) (p : Packets) → AreFirstOf h.joined (downs_of k (Some state)) → IsPlain (client_hears now s k from h state journal p).outcome
+client_plain : (now : ℕ) (s : Session) (k : ℕ) (from : Option Peer) (h : Heard) (state : SessionState) (journal : List Item) (p : Packets)
+    → AreFirstOf h.joined (downs_of k (Some state)) → IsPlain (client_hears now s k from h state journal p).outcome
 client_plain now s k from h state journal p f =
     let heard = answers_in k h.joined state.down f in
-    subst (λ (x : SessionStepped). IsPlain x.outcome) (sym (heard_is s now k from h heard.0 state journal p heard.1)) (heard_plain h now k heard.0 state.client)
+    subst (λ (x : SessionStepped). IsPlain x.outcome) (sym (heard_is s now k from h heard.0 state journal p heard.1))
+    (heard_plain h now k heard.0 state.client)
 
-steps_plain : (now : ℕ) (es : List ServerEvent) (c : Core) → AllByRecursion (λ (n : Note). is_link_strange n ≡ false) (server_notes now es c)
+steps_plain : (now : ℕ) (es : List ServerEvent) (c : Core)
+    → AllByRecursion (λ (n : Note). is_link_strange n ≡ false) (server_notes now es c)
 steps_plain now [] c = tt
 steps_plain now (e ∷ es) c = (refl, steps_plain now es (core_step c now e).server)
 
-heard_there : (h : Heard) (now : ℕ) (es : List ServerEvent) (c : Core) → AllByRecursion (λ (n : Note). is_link_strange n ≡ false) (noted_there h now es c)
+heard_there : (h : Heard) (now : ℕ) (es : List ServerEvent) (c : Core)
+    → AllByRecursion (λ (n : Note). is_link_strange n ≡ false) (noted_there h now es c)
 heard_there h now [] c = (quiet_plain h, tt)
 heard_there h now (e ∷ es) c = steps_plain now (e ∷ es) c
 
-server_plain : (w : TheServed) (now k : ℕ) (from : Option Peer) (h : Heard) (x : ServerStepped) (who : Peer) → AreFirstOf h.joined (between w who (Server k)) → IsPlain (server_heard now k who from h x).outcome
+server_plain : (w : TheServed) (now k : ℕ) (from : Option Peer) (h : Heard) (x : ServerStepped) (who : Peer)
+    → AreFirstOf h.joined (between w who (Server k)) → IsPlain (server_heard now k who from h x).outcome
 server_plain w now k from h x who f =
     let es = events_in w k who h.joined f in
     subst (λ (y : ServerStepped). IsPlain y.outcome) (sym (server_heard_is k now who from h es.0 x es.1)) (heard_there h now es.0 x.server)
@@ -85,20 +93,26 @@ server_plain w now k from h x who f =
 -- ## A packet is told
 
 module _ (w : TheServed) (now : ℕ) where
-  told_plain : (s : Session) (k : ℕ) (p : Packet) (o : Option SessionState) → AreFirstOf (joined_at (state_post o) (Server k) p) (downs_of k o) → IsPlain (client_receive_packet_at o now s k p w).outcome
+  told_plain : (s : Session) (k : ℕ) (p : Packet) (o : Option SessionState)
+      → AreFirstOf (joined_at (state_post o) (Server k) p) (downs_of k o) → IsPlain (client_receive_packet_at o now s k p w).outcome
   told_plain s k p None f = (refl, tt)
   told_plain s k p (Some state) f =
       let a = post_accepted state.post (Server k) p in
       client_plain now s k (heard_in (Server k) p) a.heard (record state { post = a.links }) w.journal w.packets f
 
-  server_comes_plain : (k : ℕ) (from : Peer) (p : Packet) (c : Option Core) (o : Option Links) → AreFirstOf (joined_at o from p) (between w from (Server k)) → IsPlain (server_receive_packet_at c o now k from p w).outcome
+  server_comes_plain : (k : ℕ) (from : Peer) (p : Packet) (c : Option Core) (o : Option Links)
+      → AreFirstOf (joined_at o from p) (between w from (Server k)) → IsPlain (server_receive_packet_at c o now k from p w).outcome
   server_comes_plain k from p None o f = (refl, tt)
   server_comes_plain k from p (Some c) None f = (refl, tt)
   server_comes_plain k from p (Some c) (Some post) f =
       let a = post_accepted post from p in
-      server_plain w now k (heard_in from p) a.heard (without_joined k from a.heard.joined (record (at_server c post w) { post = a.links })) from f
+      server_plain w now k (heard_in from p) a.heard (without_joined k from a.heard.joined (record (at_server c post w) {
+        post =
+            a.links;
+      })) from f
 
-  comes_plain : (from to : Peer) (p : Packet) → AreFirstOf (joined_at (post_of w to) from p) (between w from to) → IsPlain (comes now from to p w).outcome
+  comes_plain : (from to : Peer) (p : Packet) → AreFirstOf (joined_at (post_of w to) from p) (between w from to)
+      → IsPlain (comes now from to p w).outcome
   comes_plain from (Server k) p f = server_comes_plain k from p (slice_get w.servers k) (slice_get w.posts k) f
   comes_plain (Server k) (Client s) p f = told_plain s k p (get w.sessions s.0) f
   comes_plain (Client t) (Client s) p f = (refl, tt)
@@ -128,7 +142,8 @@ turn_plain : (o : Option SessionState) (now : ℕ) (s : Session) (w : TheServed)
 turn_plain None now s w = (refl, tt)
 turn_plain (Some state) now s w = (refl, tt)
 
-server_step_plain : (c : Option Core) (o : Option Links) (k : ℕ) (turn : Bool) (now : ℕ) (e : ServerEvent) (w : TheServed) → IsPlain (server_step_at c o k turn now e w).outcome
+server_step_plain : (c : Option Core) (o : Option Links) (k : ℕ) (turn : Bool) (now : ℕ) (e : ServerEvent) (w : TheServed)
+    → IsPlain (server_step_at c o k turn now e w).outcome
 server_step_plain None o k turn now e w = (refl, tt)
 server_step_plain (Some c) None k turn now e w = (refl, tt)
 server_step_plain (Some c) (Some post) k turn now e w = (refl, tt)
@@ -164,6 +179,7 @@ step_plain (Direct w) e h = direct_plain w e.what
 step_plain (Served w) e h = served_plain w e.reading e.what h
 
 -- what was answered is what the event came to
-pub answered_plain : (w : Form) (e : Event) (r : Result Outcome CoreError) → LinksCarry w → IfOk r (λ (o : Outcome). o ≡ (step w e).outcome) → IfOk r (HasNone is_link_strange)
+pub answered_plain : (w : Form) (e : Event) (r : Result Outcome CoreError) → LinksCarry w
+    → IfOk r (λ (o : Outcome). o ≡ (step w e).outcome) → IfOk r (HasNone is_link_strange)
 answered_plain w e (Ok o) h is = subst (λ (x : Outcome). HasNone is_link_strange x) (sym is) (step_plain w e h)
 answered_plain w e (Err error) h is = tt

@@ -48,7 +48,8 @@ pub each_both : {X : Type 0} (P : X → Type 0) (xs ys : List X) → AllByRecurs
 each_both P [] ys g h = h
 each_both P (x ∷ xs) ys g h = (g.0, each_both P xs ys g.1 h)
 
-each_put : {X : Type 0} (P : X → Type 0) (test : X → Bool) (x : X) (ys : List X) → P x → AllByRecursion P ys → AllByRecursion P (put_before test x ys)
+each_put : {X : Type 0} (P : X → Type 0) (test : X → Bool) (x : X) (ys : List X) → P x → AllByRecursion P ys
+    → AllByRecursion P (put_before test x ys)
 each_put P test x [] p h = (p, tt)
 each_put P test x (y ∷ ys) p h =
     elim (test y) as (λ b. AllByRecursion P (cond b (x ∷ y ∷ ys) (y ∷ put_before test x ys))) [
@@ -80,7 +81,8 @@ node_open (RemoveNode file) o own h = tt
 node_open (AddHandle file session h modes) None own x = tt
 node_open (AddHandle file session h modes) (Some n) own x =
     let new : Handle = record { session = session; h = h; modes = modes } in
-    each_put IsOpen (comes_before new) new (without_handle n.handles session h) (joined _ _ own.0 own.1) (each_left IsOpen (λ y. not (is_at session h y)) n.handles x)
+    each_put IsOpen (comes_before new) new (without_handle n.handles session h) (joined _ _ own.0 own.1)
+    (each_left IsOpen (λ y. not (is_at session h y)) n.handles x)
 node_open (RemoveHandle file session h) None own x = tt
 node_open (RemoveHandle file session h) (Some n) own x = each_left IsOpen (λ y. not (is_at session h y)) n.handles x
 node_open (SetInfo file size stamp) None own h = tt
@@ -109,7 +111,8 @@ open_at : (m : RecordMap) (k : List ℕ) (o : Option Record) → HandlesOpen m �
 open_at m k o s own q = subst (λ o. IfSome o HasOpenHandles) (sym (get_with_at m k o q)) (chosen _ o (get m q) own (s q))
 
 open_after : (m : RecordMap) (e : Effect) → AddsOpen e → HandlesOpen m → HandlesOpen (records_after m e)
-open_after m e own s = open_at m (changed_file e) (record_change e (get m (changed_file e))) s (change_open e (get m (changed_file e)) own (s (changed_file e)))
+open_after m e own s = open_at m (changed_file e) (record_change e (get m (changed_file e))) s
+    (change_open e (get m (changed_file e)) own (s (changed_file e)))
 
 pub open_after_all : (m : RecordMap) (es : List Effect) → AllByRecursion AddsOpen es → HandlesOpen m → HandlesOpen (records_after_all m es)
 open_after_all m [] own s = s
@@ -133,7 +136,8 @@ first_open false = open_empty
 -- ## What goes, and what comes
 
 pub open_left : (prefix : List ℕ) (given : Keyed Bool) (m : RecordMap) → HandlesOpen m → HandlesOpen (records_left prefix given m)
-open_left prefix given m s q = subst (λ (o : Option Record). IfSome o HasOpenHandles) (sym (left_at prefix given m q)) (chosen _ (get m q) None (s q) tt)
+open_left prefix given m s q =
+    subst (λ (o : Option Record). IfSome o HasOpenHandles) (sym (left_at prefix given m q)) (chosen _ (get m q) None (s q) tt)
 
 open_one : (o : Option Record) (r : Record) → o ≡ Some r → IfSome o HasOpenHandles → HasOpenHandles r
 open_one o r e h = subst (λ (x : Option Record). IfSome x HasOpenHandles) e h
@@ -151,7 +155,8 @@ open_with (e ∷ es) m own s = open_with es (with_at m e.0 (Some e.1)) (λ f i. 
 -- ## What is added, and what is told
 
 -- the effects of an operation that is readable, of a session that there may be
-pub effects_open : (by : Session) (o : Op) (r : Reply) → is_readable_session by ≡ true → is_readable_op o ≡ true → AllByRecursion AddsOpen (effects_of by o r)
+pub effects_open : (by : Session) (o : Op) (r : Reply) → is_readable_session by ≡ true → is_readable_op o ≡ true
+    → AllByRecursion AddsOpen (effects_of by o r)
 effects_open by (op.Create dir name kind (Some id)) reply.Made own h = (tt, (tt, tt))
 effects_open by (op.OpenFile file x modes) reply.Opened own h = ((own, h), tt)
 effects_open by (op.Close file x) reply.Closed own h = (tt, tt)

@@ -5,7 +5,8 @@ use Rattle.std.specs.List.{position, position_from, remove}
 use Rattle.std.proofs.lemmas.Iterator.Adapters.{position_from-zero}
 use Rattle.fs_serial.specs.Cluster.{without_first}
 
-from_place : {X : Type 0} (is : X → Bool) (n : ℕ) (xs : List X) (i : ℕ) → position_from is n xs ≡ Some i → (j : ℕ) × (i ≡ n + j) × (remove xs j ≡ without_first is xs)
+from_place : {X : Type 0} (is : X → Bool) (n : ℕ) (xs : List X) (i : ℕ) → position_from is n xs ≡ Some i
+    → (j : ℕ) × (i ≡ n + j) × (remove xs j ≡ without_first is xs)
 from_place {X = X} is n [] i e = absurd (cc)
 from_place {X = X} is n (x ∷ xs) i e = go (is x) refl (from_place is (n + 1) xs i)
   where

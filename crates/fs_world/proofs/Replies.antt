@@ -9,7 +9,8 @@ use Rattle.fs_schedule.specs.declared.outcome.Outcome.{Outcome}
 use Rattle.fs_world.specs.Order.{Tale, ReplyGiven, after, tale_of, IsAdmitted, AllAdmitted, HasNumberOf, Agrees}
 
 -- one more event, with its outcome
-pub tale_push : (t : Tale) (es : List Event) (os : List Outcome) (e : Event) (o : Outcome) → length es ≡ length os → tale_of t (es ++ e ∷ []) (os ++ o ∷ []) ≡ after e.what o (tale_of t es os)
+pub tale_push : (t : Tale) (es : List Event) (os : List Outcome) (e : Event) (o : Outcome) → length es ≡ length os
+    → tale_of t (es ++ e ∷ []) (os ++ o ∷ []) ≡ after e.what o (tale_of t es os)
 tale_push t [] [] e o h = refl
 tale_push t [] (p ∷ ps) e o h = absurd (omega arith)
 tale_push t (d ∷ ds) [] e o h = absurd (omega arith)
@@ -19,7 +20,8 @@ grown : (j : List Item) (i : Item) (t : ReplyGiven) → IsAdmitted j t → IsAdm
 grown j i t h = (h.0, In-front h.0 j (i ∷ []) h.1, h.2, h.3)
 
 -- one more item, and what was told of it
-pub admitted_push : (j : List Item) (told : List ReplyGiven) (i : Item) (t : ReplyGiven) → HasNumberOf i t → Agrees i t → AllAdmitted j told → AllAdmitted (j ++ i ∷ []) (told ++ t ∷ [])
+pub admitted_push : (j : List Item) (told : List ReplyGiven) (i : Item) (t : ReplyGiven) → HasNumberOf i t → Agrees i t
+    → AllAdmitted j told → AllAdmitted (j ++ i ∷ []) (told ++ t ∷ [])
 admitted_push j told i t number agrees h = λ x m. either x (In-append x told (t ∷ []) m)
   where
     either : (x : ReplyGiven) → In x told ⊎ In x (t ∷ []) → IsAdmitted (j ++ i ∷ []) x

@@ -10,7 +10,8 @@ use Rattle.fs_world.proofs.Replies.{tale_push}
 -- what holds while these events are to come, where this was told
 module _ (P : List Event → Tale → Form → Type 0) where
   abbrev pub Keeps : Type 0
-  Keeps = (e : Event) (es : List Event) (tale : Tale) (w : Form) → P (e ∷ es) tale w → P es (after e.what (step w e).outcome tale) (step w e).world
+  Keeps = (e : Event) (es : List Event) (tale : Tale) (w : Form) → P (e ∷ es) tale w
+      → P es (after e.what (step w e).outcome tale) (step w e).world
 
   -- the outcomes are those of the events that are done
   pub record IsAt (done es : List Event) (r : Run) : Type 0 where
@@ -20,7 +21,9 @@ module _ (P : List Event → Tale → Form → Type 0) where
   more_keeps : Keeps → (done es : List Event) (e : Event) (r : Run) → IsAt done (e ∷ es) r → IsAt (done ++ e ∷ []) es (more r e)
   more_keeps keeps done es e r h = record {
     counted = length-append done (e ∷ []) ∙ ap (λ n. n + 1) h.counted ∙ sym (length-append r.outcomes ((step r.world e).outcome ∷ []));
-    holds = subst (λ (t : Tale). P es t (step r.world e).world) (sym (tale_push first_tale done r.outcomes e (step r.world e).outcome h.counted)) (keeps e es (tale_of first_tale done r.outcomes) r.world h.holds);
+    holds = subst (λ (t : Tale). P es t (step r.world e).world)
+        (sym (tale_push first_tale done r.outcomes e (step r.world e).outcome h.counted))
+        (keeps e es (tale_of first_tale done r.outcomes) r.world h.holds);
   }
 
   pub run_keeps : Keeps → (done es : List Event) (r : Run) → IsAt done es r → IsAt (done ++ es) [] (run_on r es)

@@ -24,7 +24,6 @@ use Rattle.fs_field.specs.Table.{borne_numbers, has_no, is_live, no_before, rene
 use Rattle.fs_field.proofs.Leases.{SameLease, renewed_same, unlocked_same}
 use Rattle.fs_map.specs.Lists.{piece_of}
 use Rattle.fs_map.specs.Map.{server_of}
-use Rattle.fs_parcel.specs.Parcel.{move_refusal}
 use Rattle.fs_parcel.specs.declared.error.MoveError.{MoveError}
 use Rattle.fs_rows.specs.Granted.{with_rows}
 use Rattle.fs_rows.specs.Live.{unlocked_on, unlocked_rows_on}
@@ -68,7 +67,8 @@ use Rattle.fs_server.specs.Begins.{Round, begins, first_round, leader_with, part
 use Rattle.fs_server.specs.Concludes.{ends_now, goes_on, keeps_for, tells}
 use Rattle.fs_server.specs.Counts.{after_own_vote, ask_for, asked_at, done_step, done_with, vote_step, with_vote}
 use Rattle.fs_server.specs.Leads.{lead_step}
-use Rattle.fs_server.specs.Asks.{Asking, ask_fresh, ask_from, ask_step, asked_in, fresh_for, fresh_in, fresh_of, kind_for, recall_of, recalls_at, with_lease}
+use Rattle.fs_server.specs.Asks.{Asking, ask_fresh, ask_from, ask_step, asked_in, fresh_for, fresh_in, fresh_of, kind_for, recall_of}
+use Rattle.fs_server.specs.Asks.{recalls_at, with_lease}
 use Rattle.fs_server.specs.Follows.{applies, is_prepared, to_server, vote_here, votes}
 use Rattle.fs_server.proofs.Following.{IsOneOf, decided_rows, voted_rows}
 use Rattle.fs_server.specs.Moves.{fits_here, move_at, parcel_at, peer_step}
@@ -82,9 +82,12 @@ use Rattle.fs_server.specs.declared.event.ServerEvent.TheVariants.{FromClient, F
 use Rattle.fs_server.specs.declared.state.Server.{Server}
 use Rattle.std.specs.Prelude.{IfSome}
 use Rattle.fs_serial.specs.Cluster.{parcel_in}
+use Rattle.fs_serial.specs.PathLaws.{IsPathMessage}
 use Rattle.fs_serial.proofs.Moves.Parcels.{if_some}
+use Rattle.fs_serial.proofs.Moves.PathSteps.{ArePathSends, each_message, refusal_here, refused}
 use Rattle.fs_serial.proofs.Transactions.RoundsLocks.{round_by}
 use Rattle.fs_world.proofs.LedEach.{each_done, each_goes, each_vote}
+use Rattle.fs_world.proofs.OpenHandles.{each_both}
 
 -- each row is of one of these sessions
 abbrev pub AreOf : (Session → Type 0) → List Row → Type 0
@@ -94,8 +97,10 @@ AreOf these rows = (row : Row) → In row rows → these row.session
 abbrev pub BringsOf : (Session → Type 0) → PeerMsg → Type 0
 BringsOf these m = IfSome (parcel_in m) (λ (p : Parcel). AreOf these p.rows)
 
-pub brings_still : (these those : Session → Type 0) → ((s : Session) → these s → those s) → (m : PeerMsg) → BringsOf these m → BringsOf those m
-brings_still these those stay m h = if_some (λ (p : Parcel). AreOf these p.rows) (λ (p : Parcel). AreOf those p.rows) (λ p of row i. stay row.session (of row i)) (parcel_in m) h
+pub brings_still : (these those : Session → Type 0) → ((s : Session) → these s → those s) → (m : PeerMsg) → BringsOf these m
+    → BringsOf those m
+brings_still these those stay m h = if_some (λ (p : Parcel). AreOf these p.rows) (λ (p : Parcel). AreOf those p.rows)
+    (λ p of row i. stay row.session (of row i)) (parcel_in m) h
 
 -- it goes to one of these sessions, or to a server with rows of these
 abbrev pub IsSentTo : (Session → Type 0) → Peer × Msg → Type 0
@@ -109,18 +114,22 @@ AreSentTo these messages = AllByRecursion (λ (x : Peer × Msg). IsSentTo these 
 -- ## Leases are asked back from the sessions of their rows
 
 -- one that no transaction keeps is of one of these
-unlocked : (these : Session → Type 0) (field : Field) (rows : List Row) → AreOf these rows → (x : LeaseNo × Session) → In x (unlocked_on field rows) → these x.1
+unlocked : (these : Session → Type 0) (field : Field) (rows : List Row) → AreOf these rows → (x : LeaseNo × Session)
+    → In x (unlocked_on field rows) → these x.1
 unlocked these field rows h x i =
     let at = In-map (λ (row : Row). (row.no, row.session)) x (unlocked_rows_on field rows) i in
-    subst these (ap (λ (y : LeaseNo × Session). y.1) (sym at.1.1)) (h at.0 (In-filter (λ (row : Row). same_field row.field field && not (is_some row.lock)) at.0 rows at.1.0))
+    subst these (ap (λ (y : LeaseNo × Session). y.1) (sym at.1.1))
+    (h at.0 (In-filter (λ (row : Row). same_field row.field field && not (is_some row.lock)) at.0 rows at.1.0))
 
 -- what holds where one of these is asked for a lease holds of all that is sent so
-module _ (these : Session → Type 0) (P : Peer × Msg → Type 0) (recall : (s : Session) (n : LeaseNo) → these s → P (to_session s (reply.Recall n))) where
+module _ (these : Session → Type 0) (P : Peer × Msg → Type 0) (recall : (s : Session) (n : LeaseNo) → these s
+    → P (to_session s (reply.Recall n))) where
   abbrev ArePassed : List (Peer × Msg) → Type 0
   ArePassed messages = AllByRecursion P messages
 
   -- what stands in the way
-  recalled : (blocker : LeaseNo) (o : Option Row) (rows : List Row) → find (has_no blocker) rows ≡ o → AreOf these rows → ArePassed (recall_of blocker o)
+  recalled : (blocker : LeaseNo) (o : Option Row) (rows : List Row) → find (has_no blocker) rows ≡ o → AreOf these rows
+      → ArePassed (recall_of blocker o)
   recalled blocker None rows e h = tt
   recalled blocker (Some row) rows e h = (recall row.session blocker (h row (found (has_no blocker) rows row e).0), tt)
 
@@ -132,20 +141,18 @@ module _ (these : Session → Type 0) (P : Peer × Msg → Type 0) (recall : (s 
   recalled_at (end.NoIds full) rows h = tt
   recalled_at (end.Ended n missed until now) rows h = tt
 
-  passed_more : (xs ys : List (Peer × Msg)) → ArePassed xs → ArePassed ys → ArePassed (xs ++ ys)
-  passed_more [] ys h g = g
-  passed_more (x ∷ xs) ys h g = (h.0, passed_more xs ys h.1 g)
-
   -- each of those in the way
   pub recalled_for : (rows : List Row) (ns : List LeaseNo) → AreOf these rows → ArePassed (recalls_for rows ns)
   recalled_for rows [] h = tt
-  recalled_for rows (n ∷ ns) h = passed_more (recall_of n (find (has_no n) rows)) (recalls_for rows ns) (recalled n (find (has_no n) rows) rows refl h) (recalled_for rows ns h)
+  recalled_for rows (n ∷ ns) h = each_both P (recall_of n (find (has_no n) rows)) (recalls_for rows ns)
+      (recalled n (find (has_no n) rows) rows refl h) (recalled_for rows ns h)
 
   recalls_sent : (leases : List (LeaseNo × Session)) → ((x : LeaseNo × Session) → In x leases → these x.1) → ArePassed (recalls_of leases)
   recalls_sent [] h = tt
   recalls_sent (x ∷ xs) h = (recall x.1 x.0 (h x (inl refl)), recalls_sent xs (λ y i. h y (inr i)))
 
-  pub recall_sent : (b : Bool) (field : Field) (rows : List Row) → AreOf these rows → ArePassed (recalls_of (cond b (unlocked_on field rows) []))
+  pub recall_sent : (b : Bool) (field : Field) (rows : List Row) → AreOf these rows
+      → ArePassed (recalls_of (cond b (unlocked_on field rows) []))
   recall_sent true field rows h = recalls_sent (unlocked_on field rows) (unlocked these field rows h)
   recall_sent false field rows h = tt
 
@@ -181,7 +188,8 @@ module _ (these : Session → Type 0) where
   put_all [] rows h all = all
   put_all (r ∷ rs) rows h all = put_all rs (with_row r rows) (λ x i. h x (inr i)) (put r rows (h r (inl refl)) all)
 
-  lent : (by : Session) (field : Field) (kind : LeaseKind) (promise : Option Bool) (s : Server) → these by → AreOf these s.rows → AreOf these (with_lease by field kind promise s).rows
+  lent : (by : Session) (field : Field) (kind : LeaseKind) (promise : Option Bool) (s : Server) → these by → AreOf these s.rows
+      → AreOf these (with_lease by field kind promise s).rows
   lent by field kind promise s h all row i = put _ s.rows h all row i
 
   -- what leaves the leases leaves their sessions
@@ -201,30 +209,36 @@ module _ (these : Session → Type 0) where
 
   -- ## A question
 
-  after_items : (by : Session) → these by → (xs : List (Field × LeaseKind)) (s : Server) (grants : List Grant) → AreOf these s.rows → AreOf these (ask_from by xs s grants).server.rows
+  after_items : (by : Session) → these by → (xs : List (Field × LeaseKind)) (s : Server) (grants : List Grant) → AreOf these s.rows
+      → AreOf these (ask_from by xs s grants).server.rows
   after_items by p = each_item by (λ xs s grants a. AreOf these s.rows → AreOf these a.server.rows)
       (λ s grants h. h)
       (λ x xs s grants promise a mine e more h. more (lent by x.0 (kind_for x.0 x.1) promise s p h))
       (λ x xs s grants at why h. h)
 
   -- a new file's identifier
-  after_fresh_of : (by : Session) (dir : List ℕ) (k : Option ℕ) (a : Asking) → these by → AreOf these a.server.rows → AreOf these (fresh_of by dir k a).server.rows
+  after_fresh_of : (by : Session) (dir : List ℕ) (k : Option ℕ) (a : Asking) → these by → AreOf these a.server.rows
+      → AreOf these (fresh_of by dir k a).server.rows
   after_fresh_of by dir (Some k) a p h = lent by (Life (child dir k)) Exclusive None a.server p h
   after_fresh_of by dir None a p h = h
 
-  after_fresh_in : (by : Session) (dir : List ℕ) (b : Bool) (a : Asking) → these by → AreOf these a.server.rows → AreOf these (fresh_in by dir b a).server.rows
+  after_fresh_in : (by : Session) (dir : List ℕ) (b : Bool) (a : Asking) → these by → AreOf these a.server.rows
+      → AreOf these (fresh_in by dir b a).server.rows
   after_fresh_in by dir true a p h = after_fresh_of by dir (fresh_number a.server.records dir (borne_numbers dir a.server.rows)) a p h
   after_fresh_in by dir false a p h = h
 
-  after_fresh_for : (by : Session) (dir : Option (List ℕ)) (a : Asking) → these by → AreOf these a.server.rows → AreOf these (fresh_for by dir a).server.rows
+  after_fresh_for : (by : Session) (dir : Option (List ℕ)) (a : Asking) → these by → AreOf these a.server.rows
+      → AreOf these (fresh_for by dir a).server.rows
   after_fresh_for by None a p h = h
   after_fresh_for by (Some dir) a p h =
-      elim (is_mine a.server dir) as (λ (b : Bool). AreOf these (cond b (fresh_in by dir (is_directory a.server.records dir) a) (record a { end = moved a.server dir })).server.rows) [
+      elim (is_mine a.server dir) as (λ (b : Bool).
+      AreOf these (cond b (fresh_in by dir (is_directory a.server.records dir) a) (record a { end = moved a.server dir })).server.rows) [
         | true ↦ after_fresh_in by dir (is_directory a.server.records dir) a p h
         | false ↦ h
       ]
 
-  after_fresh : (by : Session) (dir : Option (List ℕ)) (e : End) (a : Asking) → these by → AreOf these a.server.rows → AreOf these (ask_fresh by dir e a).server.rows
+  after_fresh : (by : Session) (dir : Option (List ℕ)) (e : End) (a : Asking) → these by → AreOf these a.server.rows
+      → AreOf these (ask_fresh by dir e a).server.rows
   after_fresh by dir end.All a p h = after_fresh_for by dir a p h
   after_fresh by dir (end.Wait blocker) a p h = h
   after_fresh by dir (end.Locked txn) a p h = h
@@ -232,10 +246,19 @@ module _ (these : Session → Type 0) where
   after_fresh by dir (end.NoIds full) a p h = h
   after_fresh by dir (end.Ended n missed until now) a p h = h
 
-  ask_of : (by : Session) (items : List (Field × LeaseKind)) (dir : Option (List ℕ)) (s : Server) → these by → AreOf these s.rows → IsOf (ask_step by items dir s)
+  ask_of : (by : Session) (items : List (Field × LeaseKind)) (dir : Option (List ℕ)) (s : Server) → these by → AreOf these s.rows
+      → IsOf (ask_step by items dir s)
   ask_of by items dir s p h =
-      let rows : AreOf these (asked_in by items dir s).server.rows = after_fresh by dir (ask_from by items s []).end (ask_from by items s []) p (after_items by p items s [] h) in
-      record { rows = rows; sends = (p, recalled_at these (λ (x : Peer × Msg). IsSentTo these x) (λ s n h. h) (asked_in by items dir s).end (asked_in by items dir s).server.rows rows) }
+      let rows : AreOf these (asked_in by items dir s).server.rows =
+      after_fresh by dir (ask_from by items s []).end (ask_from by items s []) p (after_items by p items s [] h) in
+      record {
+        rows = rows;
+        sends = (
+          p,
+          recalled_at these (λ (x : Peer × Msg). IsSentTo these x) (λ s n h. h) (asked_in by items dir s).end
+              (asked_in by items dir s).server.rows rows,
+        );
+      }
 
   -- ## Other messages
 
@@ -243,7 +266,8 @@ module _ (these : Session → Type 0) where
   strange_of s h = record { rows = h; sends = tt }
 
   -- no entry changes a row
-  after_entries : (by : Session) (es : List Entry) (s : Server) (admitted : List Item) → AreOf these s.rows → AreOf these (ship_from by es s admitted).server.rows
+  after_entries : (by : Session) (es : List Entry) (s : Server) (admitted : List Item) → AreOf these s.rows
+      → AreOf these (ship_from by es s admitted).server.rows
   after_entries by es s admitted h = subst (AreOf these) (sym (ap (λ (t : Server). t.rows) (ships_leave by es s admitted))) h
 
   ship_of : (by : Session) (entries : List Entry) (s : Server) → these by → AreOf these s.rows → IsOf (ship_step by entries s)
@@ -274,7 +298,7 @@ module _ (these : Session → Type 0) where
   ends_of (x ∷ xs) by e p = tt
 
   sent_more : (xs ys : List (Peer × Msg)) → AreSentTo these xs → AreSentTo these ys → AreSentTo these (xs ++ ys)
-  sent_more = passed_more these (λ (x : Peer × Msg). IsSentTo these x) (λ s n h. h)
+  sent_more = each_both (λ (x : Peer × Msg). IsSentTo these x)
 
   goes_of : (n : ServerNote) (l : Leading) (sent : List (Peer × Msg)) (s : Server) → these l.leader.session
       → AreSentTo these sent → AreOf these s.rows → IsOf (goes_on n l sent s)
@@ -353,7 +377,8 @@ module _ (these : Session → Type 0) where
   -- ## Reaps
 
   -- a reap changes no row
-  reap_rows : (xs : List (List ℕ × Session)) (s : Server) (admitted : List Item) (blockers : List LeaseNo) → (reap_from xs s admitted blockers).server.rows ≡ s.rows
+  reap_rows : (xs : List (List ℕ × Session)) (s : Server) (admitted : List Item) (blockers : List LeaseNo)
+      → (reap_from xs s admitted blockers).server.rows ≡ s.rows
   reap_rows xs s admitted blockers = ap (λ (t : Server). t.rows) (reaps_leave xs s admitted blockers)
 
   turn_of : (xs : List (List ℕ × Session)) (s : Server) → AreOf these s.rows → IsOf (turn_over xs s)
@@ -361,12 +386,34 @@ module _ (these : Session → Type 0) where
   turn_of (x ∷ xs) s h =
       let all : Reaping = reap_from (x ∷ xs) s [] [] in
       let rows : AreOf these all.server.rows = subst (AreOf these) (sym (reap_rows (x ∷ xs) s [] [])) h in
-      record { rows = rows; sends = recalled_for these (λ (x : Peer × Msg). IsSentTo these x) (λ s n h. h) all.server.rows all.blockers rows }
+      record {
+        rows = rows;
+        sends =
+            recalled_for these (λ (x : Peer × Msg). IsSentTo these x) (λ s n h. h) all.server.rows all.blockers rows;
+      }
+
+  -- ## Messages of path leases
+
+  path_brings : (m : PeerMsg) → IsPathMessage m → BringsOf these m
+  path_brings (OfParcel p) is = absurd is
+  path_brings (Prepare m) is = absurd is
+  path_brings (Vote m) is = absurd is
+  path_brings (Decide m) is = absurd is
+  path_brings (Done m) is = absurd is
+  path_brings m is = tt
+
+  paths_sent : (ms : List (Peer × Msg)) → ArePathSends ms → AreSentTo these ms
+  paths_sent [] sent = tt
+  paths_sent ((OfServer to, msg.Peer m) ∷ rest) sent = (path_brings m sent.0, paths_sent rest sent.1)
+  paths_sent ((OfServer to, msg.Answer a) ∷ rest) sent = absurd sent.0
+  paths_sent ((OfServer to, msg.Client a) ∷ rest) sent = absurd sent.0
+  paths_sent ((Client to, m) ∷ rest) sent = absurd sent.0
 
   -- ## Moves
 
   move_of : (o : Option MoveError) (prefix : List ℕ) (to : ℕ) (s : Server) → AreOf these s.rows → IsOf (move_at o prefix to s)
-  move_of (Some why) prefix to s h = record { rows = h; sends = tt }
+  move_of (Some why) prefix to s h =
+      refused IsOf s (λ n ms paths asking given noted sent. record { rows = h; sends = paths_sent ms sent }) why prefix to
   move_of None prefix to s h =
       let piece = piece_of s.map s.me prefix in
       record {
@@ -387,7 +434,8 @@ module _ (these : Session → Type 0) where
   voted_of : (v : AVote) (from : ℕ) (m : ToPrepare) (s : Server) → AreOf these s.rows → IsOf (votes v from m s)
   voted_of v from m s h = record { rows = λ row i. one_of s.rows row h (voted_rows v from m s row i); sends = (tt, tt) }
 
-  prepare_of : (b : Bool) (v : AVote) (from : ℕ) (m : ToPrepare) (s : Server) → AreOf these s.rows → IsOf (cond b (strange s) (votes v from m s))
+  prepare_of : (b : Bool) (v : AVote) (from : ℕ) (m : ToPrepare) (s : Server) → AreOf these s.rows
+      → IsOf (cond b (strange s) (votes v from m s))
   prepare_of true v from m s h = strange_of s h
   prepare_of false v from m s h = voted_of v from m s h
 
@@ -401,6 +449,8 @@ module _ (these : Session → Type 0) where
   peer_of from (Vote m) s come led h = vote_of m s led h
   peer_of from (Decide m) s come led h = decide_of (is_prepared m.txn m.number s.prepared) from m s h
   peer_of from (Done m) s come led h = done_of m s led h
+  peer_of from m s come led h =
+      each_message IsOf s (λ n ms paths asking given noted sent. record { rows = h; sends = paths_sent ms sent }) from m tt
 
   -- ## An event
 
@@ -413,7 +463,7 @@ module _ (these : Session → Type 0) where
         rows = h;
         sends = recall_sent these (λ (x : Peer × Msg). IsSentTo these x) (λ s n h. h) (is_mine s (file_of field)) field s.rows h;
       }
-  event_of (Move prefix to) s p led h = move_of (move_refusal s.records s.rows s.map s.me prefix to None) prefix to s h
+  event_of (Move prefix to) s p led h = move_of (refusal_here prefix to s) prefix to s h
 
   -- a step keeps the rows of these sessions, and sends to these alone
   pub step_of : (s : Server) (now : ℕ) (e : ServerEvent) → IsAsked e → AreOf these s.rows → LedOf s → IsOf (step s now e)

@@ -18,7 +18,8 @@ use Rattle.fs_world.specs.Safe.{IsSafe}
 use Rattle.fs_world.specs.Direct.{Answer, Numbers, answer, answer_of, with_number_used, is_made, candidate}
 
 -- one more item at the end
-pub serial_push : (a : NodeMap) (is : List Item) (b : NodeMap) (i : Item) → IsSerialRun a is b → may_admit i.by i.op ≡ true → (item_step b i).reply ≡ i.reply → IsSerialRun a (is ++ i ∷ []) (item_step b i).nodes
+pub serial_push : (a : NodeMap) (is : List Item) (b : NodeMap) (i : Item) → IsSerialRun a is b → may_admit i.by i.op ≡ true
+    → (item_step b i).reply ≡ i.reply → IsSerialRun a (is ++ i ∷ []) (item_step b i).nodes
 serial_push a [] b i e m r = (m, ap (λ (x : NodeMap). (item_step x i).reply) e ∙ r, ap (λ (x : NodeMap). (item_step x i).nodes) e)
 serial_push a (x ∷ xs) b i h m r = (h.0, h.1, serial_push (item_step a x).nodes xs b i h.2 m r)
 
@@ -31,7 +32,8 @@ pub record IsStep (m : NodeMap) (by : Session) (asked : Op) (a : Answer) : Type 
   pub asks : AsksAccess a.op
 
 create_steps : (b : Bool) (m : NodeMap) (next : Numbers) (by : Session) (dir name : List ℕ) (kind : Kind) (unnamed id : Option (List ℕ))
-    → IsStep m by (op.Create dir name kind unnamed) (if b then with_number_used next dir (answer_of m next by (op.Create dir name kind id)) else answer_of m next by (op.Create dir name kind None))
+    → IsStep m by (op.Create dir name kind unnamed) (if b then with_number_used next dir (answer_of m next by (op.Create dir name kind id))
+    else answer_of m next by (op.Create dir name kind None))
 create_steps true m next by dir name kind unnamed id = record { reply = refl; space = refl; same = (id, refl); plain = refl; asks = tt }
 create_steps false m next by dir name kind unnamed id = record { reply = refl; space = refl; same = (None, refl); plain = refl; asks = tt }
 

@@ -32,24 +32,31 @@ use Rattle.fs_serial.proofs.Transactions.YesesStand.{session_stands}
 
 pub record SerialLaws : Type 0 where
   -- every event of a server keeps all that holds, and the greatest reading may rise
-  pub event : (skew greatest now k : ℕ) (e : ServerEvent) (s : Server) (c : Cluster) → slice_get c.servers k ≡ Some s → max s.last now ≤ greatest → IsThere k e c → ClusterHolds skew greatest c → ClusterHolds skew greatest (after_server now k e c)
+  pub event : (skew greatest now k : ℕ) (e : ServerEvent) (s : Server) (c : Cluster) → slice_get c.servers k ≡ Some s
+      → max s.last now ≤ greatest → IsThere k e c → ClusterHolds skew greatest c → ClusterHolds skew greatest (after_server now k e c)
   pub rises : (skew greatest later : ℕ) (c : Cluster) → greatest ≤ later → ClusterHolds skew greatest c → ClusterHolds skew later c
   -- so does every event of a client
-  pub client : (skew greatest now : ℕ) (c : Cluster) (by : Session) → ClusterHolds skew greatest c → (e : ClientEvent) → CanCome by e c → greatest ≤ now + skew → ClusterHolds skew greatest (after_client by now e c)
+  pub client : (skew greatest now : ℕ) (c : Cluster) (by : Session) → ClusterHolds skew greatest c → (e : ClientEvent) → CanCome by e c
+      → greatest ≤ now + skew → ClusterHolds skew greatest (after_client by now e c)
   -- nothing that comes is strange
-  pub server_plain : (skew greatest now k : ℕ) (e : ServerEvent) (s : Server) (c : Cluster) → slice_get c.servers k ≡ Some s → max s.last now ≤ greatest → IsThere k e c → ClusterHolds skew greatest c → (step s now e).out.note ≢ server_note.Strange
-  pub client_plain : (skew greatest now from : ℕ) (a : Answer) (by : Session) (c : Cluster) → CanCome by (Hears from a) c → ClusterHolds skew greatest c → (answer_plan (c.lines by).client now from a).out.note ≢ client_note.Strange
+  pub server_plain : (skew greatest now k : ℕ) (e : ServerEvent) (s : Server) (c : Cluster) → slice_get c.servers k ≡ Some s
+      → max s.last now ≤ greatest → IsThere k e c → ClusterHolds skew greatest c → (step s now e).out.note ≢ server_note.Strange
+  pub client_plain : (skew greatest now from : ℕ) (a : Answer) (by : Session) (c : Cluster) → CanCome by (Hears from a) c
+      → ClusterHolds skew greatest c → (answer_plan (c.lines by).client now from a).out.note ≢ client_note.Strange
   -- all of it holds at the start
   pub first : (servers skew term greatest : ℕ) → 1 ≤ servers → ClusterHolds skew greatest (first_cluster servers skew term)
   -- refusals are fair
-  pub fair : (skew greatest now k : ℕ) (by : Session) (entries : List Entry) (s : Server) (c : Cluster) → slice_get c.servers k ≡ Some s → greatest ≤ now + skew → IsThere k (FromClient by (Ship entries)) c → ClusterHolds skew greatest c
+  pub fair : (skew greatest now k : ℕ) (by : Session) (entries : List Entry) (s : Server) (c : Cluster) → slice_get c.servers k ≡ Some s
+      → greatest ≤ now + skew → IsThere k (FromClient by (Ship entries)) c → ClusterHolds skew greatest c
       → IsFairStep now k by entries s c
   -- what is told of leases that had ended is right, and so is what a server notes of them
-  pub fair_event : (skew greatest now k : ℕ) (e : ServerEvent) (s : Server) (c : Cluster) → slice_get c.servers k ≡ Some s → max s.last now ≤ greatest
+  pub fair_event : (skew greatest now k : ℕ) (e : ServerEvent) (s : Server) (c : Cluster) → slice_get c.servers k ≡ Some s
+      → max s.last now ≤ greatest
       → greatest ≤ now + skew → IsThere k e c → ClusterHolds skew greatest c → EndsFair c → EndsFair (after_server now k e c)
-  pub fair_note : (skew greatest now k : ℕ) (e : ServerEvent) (s : Server) (c : Cluster) → slice_get c.servers k ≡ Some s → max s.last now ≤ greatest
+  pub fair_note : (skew greatest now k : ℕ) (e : ServerEvent) (s : Server) (c : Cluster) → slice_get c.servers k ≡ Some s
+      → max s.last now ≤ greatest
       → greatest ≤ now + skew → IsThere k e c → ClusterHolds skew greatest c → EndsFair c
-      → IsFairAbort (after_step k e (step s now e) c) (step s now e).out.note
+      → IsFairAbort c e (after_step k e (step s now e) c) (step s now e).out.note
   pub fair_client : (skew greatest now : ℕ) (c : Cluster) (by : Session) → ClusterHolds skew greatest c → EndsFair c
       → (e : ClientEvent) → CanCome by e c → EndsFair (after_client by now e c)
   pub fair_first : (servers skew term : ℕ) → EndsFair (first_cluster servers skew term)
@@ -66,16 +73,21 @@ pub record AsksOne (c : Cluster) (x : Session) : Type 0 where
 pub record EventLaws : Type 1 where
   pub Holds : ℕ → ℕ → Cluster → Type 0
   pub Within : ℕ → ℕ → ℕ → Type 0
-  pub event : (skew greatest now k : ℕ) (e : ServerEvent) (s : Server) (c : Cluster) → slice_get c.servers k ≡ Some s → max s.last now ≤ greatest → Within skew greatest now → IsThere k e c → Holds skew greatest c → Holds skew greatest (after_server now k e c)
+  pub event : (skew greatest now k : ℕ) (e : ServerEvent) (s : Server) (c : Cluster) → slice_get c.servers k ≡ Some s
+      → max s.last now ≤ greatest → Within skew greatest now → IsThere k e c → Holds skew greatest c
+      → Holds skew greatest (after_server now k e c)
   pub rises : (skew greatest later : ℕ) (c : Cluster) → greatest ≤ later → Holds skew greatest c → Holds skew later c
   -- then it comes in time again with the same reading
   pub again : (skew greatest now : ℕ) → Within skew greatest now → Within skew (max greatest now) now
-  pub client : (skew greatest now : ℕ) (c : Cluster) (by : Session) → Holds skew greatest c → (e : ClientEvent) → CanCome by e c → Within skew greatest now → Holds skew greatest (after_client by now e c)
+  pub client : (skew greatest now : ℕ) (c : Cluster) (by : Session) → Holds skew greatest c → (e : ClientEvent) → CanCome by e c
+      → Within skew greatest now → Holds skew greatest (after_client by now e c)
   pub first : (servers skew term greatest : ℕ) → 1 ≤ servers → Holds skew greatest (first_cluster servers skew term)
   -- no server's reading was greater, a session hands in what asks for an access where it opens, and its client is its own
   pub clock : (skew greatest : ℕ) (s : Server) (c : Cluster) → In s c.servers → Holds skew greatest c → s.last ≤ greatest
-  pub asks : (skew greatest : ℕ) (s : Server) (c : Cluster) (by : Session) (entries : List Entry) → In s c.servers → In (Ship entries) (ends_in c by).up → Holds skew greatest c → (e : Entry) → In e entries → AsksAccess e.op
-  pub owned : (skew greatest : ℕ) (s : Server) (c : Cluster) (x : Session) → In s c.servers → Holds skew greatest c → (c.lines x).client.session ≡ x
+  pub asks : (skew greatest : ℕ) (s : Server) (c : Cluster) (by : Session) (entries : List Entry) → In s c.servers
+      → In (Ship entries) (ends_in c by).up → Holds skew greatest c → (e : Entry) → In e entries → AsksAccess e.op
+  pub owned : (skew greatest : ℕ) (s : Server) (c : Cluster) (x : Session) → In s c.servers → Holds skew greatest c
+      → (c.lines x).client.session ≡ x
   -- and asks one question at a time
   pub exchanges : (skew greatest : ℕ) (s : Server) (c : Cluster) (x : Session) → In s c.servers → Holds skew greatest c → AsksOne c x
   -- what a server leads asks for an access where it opens
@@ -88,17 +100,21 @@ pub record EventLaws : Type 1 where
 pub all_clock : (skew greatest : ℕ) (s : Server) (c : Cluster) → In s c.servers → ClusterHolds skew greatest c → s.last ≤ greatest
 all_clock skew greatest s c i h = (h.parts s i).0.clock
 
-pub all_asks : (skew greatest : ℕ) (s : Server) (c : Cluster) (by : Session) (entries : List Entry) → In s c.servers → In (Ship entries) (ends_in c by).up → ClusterHolds skew greatest c → (e : Entry) → In e entries → AsksAccess e.op
+pub all_asks : (skew greatest : ℕ) (s : Server) (c : Cluster) (by : Session) (entries : List Entry) → In s c.servers
+    → In (Ship entries) (ends_in c by).up → ClusterHolds skew greatest c → (e : Entry) → In e entries → AsksAccess e.op
 all_asks skew greatest s c by entries i there h e j =
     let parts = (h.parts s i).0 in
     let front = (parts.exchanges by).front entries there in
     ((parts.all.fitting by).entries e (subst (λ es. In e es) (sym front.log) (In-front e entries front.rest j))).access
 
-pub all_owned : (skew greatest : ℕ) (s : Server) (c : Cluster) (x : Session) → In s c.servers → ClusterHolds skew greatest c → (c.lines x).client.session ≡ x
+pub all_owned : (skew greatest : ℕ) (s : Server) (c : Cluster) (x : Session) → In s c.servers → ClusterHolds skew greatest c
+    → (c.lines x).client.session ≡ x
 all_owned skew greatest s c x i h = ((h.parts s i).0.clients x).session
 
-pub all_exchanges : (skew greatest : ℕ) (s : Server) (c : Cluster) (x : Session) → In s c.servers → ClusterHolds skew greatest c → AsksOne c x
-all_exchanges skew greatest s c x i h = let e = (h.parts s i).0.exchanges x in record { one = e.one; leads = e.leads; addressed = h.addressed x }
+pub all_exchanges : (skew greatest : ℕ) (s : Server) (c : Cluster) (x : Session) → In s c.servers → ClusterHolds skew greatest c
+    → AsksOne c x
+all_exchanges skew greatest s c x i h = let e = (h.parts s i).0.exchanges x in
+    record { one = e.one; leads = e.leads; addressed = h.addressed x }
 
 -- what moves or goes opens nothing
 moves_ask : (o : Op) (r : Reply) → is_led o r ≡ true → AsksAccess o

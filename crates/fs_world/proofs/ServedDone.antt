@@ -44,17 +44,20 @@ same_by s (Client t) = turned s.0 t.0
 
 same_filter : {X : Type 0} (p q : X → Bool) (xs : List X) → ((x : X) → p x ≡ q x) → filter p xs ≡ filter q xs
 same_filter p q [] e = refl
-same_filter p q (x ∷ xs) e = ap (λ b. cond b (x ∷ filter p xs) (filter p xs)) (e x) ∙ ap (λ ys. cond (q x) (x ∷ ys) ys) (same_filter p q xs e)
+same_filter p q (x ∷ xs) e =
+    ap (λ b. cond b (x ∷ filter p xs) (filter p xs)) (e x) ∙ ap (λ ys. cond (q x) (x ∷ ys) ys) (same_filter p q xs e)
 
 same_items : (s : Session) (journal : List Item) → items_of (Client s) journal ≡ items_by s journal
-same_items s journal = same_filter (λ (i : Item). same_actor (Client s) i.by) (λ (i : Item). is_session s i.by) journal (λ i. same_by s i.by)
+same_items s journal =
+    same_filter (λ (i : Item). same_actor (Client s) i.by) (λ (i : Item). is_session s i.by) journal (λ i. same_by s i.by)
 
 same_server : (k : ℕ) (p : Peer) → same_actor (Server k) p ≡ is_server k p
 same_server k (Server j) = turned k j
 same_server k (Client s) = refl
 
 same_reaps : (k : ℕ) (journal : List Item) → items_of (Server k) journal ≡ items_at k journal
-same_reaps k journal = same_filter (λ (i : Item). same_actor (Server k) i.by) (λ (i : Item). is_server k i.by) journal (λ i. same_server k i.by)
+same_reaps k journal =
+    same_filter (λ (i : Item). same_actor (Server k) i.by) (λ (i : Item). is_server k i.by) journal (λ i. same_server k i.by)
 
 all_ask : (journal : List Item) → AllFine journal → AllAsk journal
 all_ask [] h = tt
@@ -70,7 +73,8 @@ numbered_front : (k : ℕ) (is more : List Item) → AreNumberedFrom k (is ++ mo
 numbered_front k [] more h = tt
 numbered_front k (i ∷ is) more h = (h.0, numbered_front (k + 1) is more h.1)
 
-module _ (laws : SerialLaws) (count skew greatest : ℕ) (tale : Tale) (w : Served) (h : HoldsOf (timed laws) count skew greatest tale w) (some : 1 ≤ count) where
+module _ (laws : SerialLaws) (count skew greatest : ℕ) (tale : Tale) (w : Served) (h : HoldsOf (timed laws) count skew greatest tale w)
+    (some : 1 ≤ count) where
   abbrev seen : Cluster
   seen = cluster_of h.replied (parts_of w)
 
@@ -88,20 +92,25 @@ module _ (laws : SerialLaws) (count skew greatest : ℕ) (tale : Tale) (w : Serv
   told_numbered s = numbered_from 1 (all_items s w.journal (settled s).log) (settled s).next (holds.all.sessions s).numbers
 
   numbered : (who : Peer) → AreNumberedFrom 1 (items_of who w.journal)
-  numbered (Server k) = subst (AreNumberedFrom 1) (sym (same_reaps k w.journal)) (numbered_from 1 (items_at k w.journal) _ (holds.all.servers.reaped k))
-  numbered (Client s) = subst (AreNumberedFrom 1) (sym (same_items s w.journal)) (numbered_front 1 (items_by s w.journal) (map (item_of s) (settled s).log) (told_numbered s))
+  numbered (Server k) =
+      subst (AreNumberedFrom 1) (sym (same_reaps k w.journal)) (numbered_from 1 (items_at k w.journal) _ (holds.all.servers.reaped k))
+  numbered (Client s) = subst (AreNumberedFrom 1) (sym (same_items s w.journal))
+      (numbered_front 1 (items_by s w.journal) (map (item_of s) (settled s).log) (told_numbered s))
 
   -- the session's item of the journal is among those that it was told
   in_told : (s : Session) (i : Item) → In i w.journal → i.by ≡ Client s → In i (h.replied s)
   in_told s i there by =
       let own : is_session s i.by ≡ true = ap (is_session s) by ∙ itself s.0 in
-      subst (In i) (holds.all.sessions s).replies (In-front i (items_by s w.journal) (map (item_of s) (settled s).log) (kept (λ (i : Item). is_session s i.by) w.journal i own there))
+      subst (In i) (holds.all.sessions s).replies (In-front i (items_by s w.journal) (map (item_of s) (settled s).log)
+      (kept (λ (i : Item). is_session s i.by) w.journal i own there))
 
   agreeing : (t : ReplyGiven) (i : Item) → In t tale.told → In i w.journal → HasNumberOf i t → Agrees i t
   agreeing t i m there has =
       let s = t.session in
       let found = among_replies (ends_in seen) h.replied tale h.answered t m in
-      let same : i ≡ found.0 = number_of_one 1 (h.replied s) i found.0 (subst (AreNumberedFrom 1) (holds.all.sessions s).replies (told_numbered s)) (in_told s i there has.by) found.1 (has.n ∙ sym found.2.n) in
+      let same : i ≡ found.0 = number_of_one 1 (h.replied s) i found.0
+      (subst (AreNumberedFrom 1) (holds.all.sessions s).replies (told_numbered s)) (in_told s i there has.by) found.1 (has.n
+      ∙ sym found.2.n) in
       subst (λ (x : Item). Agrees x t) (sym same) found.3
 
   pub served_serial : IsSerialRun first_space w.journal (space_of (ServedForm w))

@@ -1,5 +1,6 @@
 -- What holds of a world of the servers form between events, and what a client's event makes of it.
-use Rattle.std.proofs.Common.{◌≡◌, ℕ, ◌≤◌, ◌==◌, max, Bool, true, false, cond, List, [], ◌∷◌, ◌++◌, length, inl, refl, ap, sym, ◌∙◌, subst, arith}
+use Rattle.std.proofs.Common.{◌≡◌, ℕ, ◌≤◌, ◌==◌, max, Bool, true, false, cond, List, [], ◌∷◌, ◌++◌, length, inl, refl, ap, sym, ◌∙◌, subst}
+use Rattle.std.proofs.Common.{arith}
 use Rattle.std.proofs.lemmas.List.{append-nil}
 use Rattle.std.specs.Prelude.{Option, Some, None}
 use Rattle.std.specs.FinMap.{get, insert}
@@ -38,7 +39,14 @@ pub record Parts : Type 0 where
   pub journal : List Item
 
 abbrev pub cluster_of : (Session → List Item) → Parts → Cluster
-cluster_of replied p = record { servers = p.servers; in_flight = p.in_flight; journal = p.journal; replied = replied; lines = lines_of p.term p.sessions }
+cluster_of replied p = record {
+  servers = p.servers;
+  in_flight = p.in_flight;
+  journal = p.journal;
+  replied = replied;
+  lines =
+      lines_of p.term p.sessions;
+}
 
 -- of these parts of a world of so many servers in which this was told, where no reading was greater
 pub record Holds (laws : EventLaws) (count skew greatest : ℕ) (tale : Tale) (p : Parts) : Type 0 where
@@ -69,8 +77,10 @@ a_server (s ∷ ss) some = (s, inl refl)
 abbrev pub untold : Tale → Tale
 untold tale = record { told = tale.told ++ []; leads = tale.leads }
 
-pub holds_untold : (laws : EventLaws) (count skew greatest : ℕ) (tale : Tale) (p : Parts) → Holds laws count skew greatest tale p → Holds laws count skew greatest (untold tale) p
-holds_untold laws count skew greatest tale p h = subst (λ ts. let t : Tale = record { told = ts; leads = tale.leads } in Holds laws count skew greatest t p) (sym (append-nil tale.told)) h
+pub holds_untold : (laws : EventLaws) (count skew greatest : ℕ) (tale : Tale) (p : Parts) → Holds laws count skew greatest tale p
+    → Holds laws count skew greatest (untold tale) p
+holds_untold laws count skew greatest tale p h = subst (λ ts. let t : Tale = record { told = ts; leads = tale.leads } in
+    Holds laws count skew greatest t p) (sym (append-nil tale.told)) h
 
 abbrev pub with_sessions : SessionStates → Parts → Parts
 with_sessions sessions p = record p { sessions = sessions }
@@ -88,10 +98,18 @@ module _ (laws : EventLaws) (count skew greatest : ℕ) (tale : Tale) (p : Parts
   }
 
   -- other sessions, with the same lines
-  pub holds_with_sessions : (sessions : SessionStates) → ((x : Session) → HasJoined p.sessions x → HasJoined sessions x) → lines_of p.term sessions ≡ lines_of p.term p.sessions → Holds laws count skew greatest tale (with_sessions sessions p)
+  pub holds_with_sessions : (sessions : SessionStates) → ((x : Session) → HasJoined p.sessions x → HasJoined sessions x)
+      → lines_of p.term sessions ≡ lines_of p.term p.sessions → Holds laws count skew greatest tale (with_sessions sessions p)
   holds_with_sessions sessions stay same = record {
     replied = h.replied;
-    cluster = subst (λ (lines : Session → Lines). laws.Holds skew greatest (record { servers = p.servers; in_flight = p.in_flight; journal = p.journal; replied = h.replied; lines = lines })) (sym same) h.cluster;
+    cluster = subst (λ (lines : Session → Lines). laws.Holds skew greatest (record {
+      servers = p.servers;
+      in_flight =
+          p.in_flight;
+      journal = p.journal;
+      replied = h.replied;
+      lines = lines;
+    })) (sym same) h.cluster;
     many = h.many;
     rows = λ s i row j. stay row.session (h.rows s i row j);
     parcels = λ f i. brings_still (HasJoined p.sessions) (HasJoined sessions) stay f.message (h.parcels f i);
@@ -100,13 +118,17 @@ module _ (laws : EventLaws) (count skew greatest : ℕ) (tale : Tale) (p : Parts
   }
 
   -- a session joins
-  pub holds_joined : (s : Session) → get p.sessions s.0 ≡ None → Holds laws count skew greatest tale (with_sessions (insert p.sessions s.0 (first_session_state p.term s)) p)
-  holds_joined s none = holds_with_sessions (insert p.sessions s.0 (first_session_state p.term s)) (λ x i. joined_still p.sessions s x (first_session_state p.term s) i) (lines_joined p.term p.sessions s none)
+  pub holds_joined : (s : Session) → get p.sessions s.0 ≡ None
+      → Holds laws count skew greatest tale (with_sessions (insert p.sessions s.0 (first_session_state p.term s)) p)
+  holds_joined s none = holds_with_sessions (insert p.sessions s.0 (first_session_state p.term s))
+      (λ x i. joined_still p.sessions s x (first_session_state p.term s) i) (lines_joined p.term p.sessions s none)
 
   module _ (s : Session) (state : SessionState) (at : get p.sessions s.0 ≡ Some state) where
     -- nothing but its links changes at a session
-    pub holds_posted : (next : SessionState) → lines_in p.term s (Some next) ≡ lines_in p.term s (Some state) → Holds laws count skew greatest tale (with_sessions (insert p.sessions s.0 next) p)
-    holds_posted next e = holds_with_sessions (insert p.sessions s.0 next) (λ x i. joined_still p.sessions s x next i) (lines_same p.term p.sessions s state next at e)
+    pub holds_posted : (next : SessionState) → lines_in p.term s (Some next) ≡ lines_in p.term s (Some state)
+        → Holds laws count skew greatest tale (with_sessions (insert p.sessions s.0 next) p)
+    holds_posted next e = holds_with_sessions (insert p.sessions s.0 next) (λ x i. joined_still p.sessions s x next i)
+        (lines_same p.term p.sessions s state next at e)
 
     -- ## A client's event
 
@@ -126,14 +148,28 @@ module _ (laws : EventLaws) (count skew greatest : ℕ) (tale : Tale) (p : Parts
     planned rest plan = record { client = committed plan.ready state.client; up = pushed plan.out.send state.up; down = rest }
 
     abbrev after : Option Item → (Session → List Item) → (Session → Lines) → Cluster
-    after admitted replied lines = record { servers = p.servers; in_flight = p.in_flight; journal = pushed admitted p.journal; replied = replied; lines = lines }
+    after admitted replied lines = record {
+      servers = p.servers;
+      in_flight = p.in_flight;
+      journal = pushed admitted p.journal;
+      replied =
+          replied;
+      lines = lines;
+    }
 
     plan_seen : {N : Type 0} (rest : List (ℕ × Answer)) (plan : Plan N) (next : SessionState)
         → lines_in p.term s (Some next) ≡ planned rest plan
-        → after_plan s rest plan (cluster_of h.replied p) ≡ after plan.out.admitted (with_told s (told_by s plan.ready.change plan.out.admitted) h.replied) (lines_of p.term (insert p.sessions s.0 next))
+        → after_plan s rest plan (cluster_of h.replied p) ≡ after plan.out.admitted
+        (with_told s (told_by s plan.ready.change plan.out.admitted) h.replied) (lines_of p.term (insert p.sessions s.0 next))
     plan_seen rest plan next e =
-        ap (λ (lines : Session → Lines). after plan.out.admitted (with_told s (told_by s plan.ready.change plan.out.admitted) h.replied) lines)
-        (ap (λ (n : Lines). with_lines s (record { client = committed plan.ready n.client; up = pushed plan.out.send n.up; down = rest }) (lines_of p.term p.sessions)) own
+        ap (λ (lines : Session → Lines). after plan.out.admitted (with_told s (told_by s plan.ready.change plan.out.admitted) h.replied)
+        lines)
+        (ap (λ (n : Lines). with_lines s (record {
+          client = committed plan.ready n.client;
+          up = pushed plan.out.send n.up;
+          down =
+              rest;
+        }) (lines_of p.term p.sessions)) own
         ∙ ap (λ (n : Lines). with_lines s n (lines_of p.term p.sessions)) (sym e)
         ∙ sym (lines_put p.term p.sessions s next))
 
@@ -141,7 +177,9 @@ module _ (laws : EventLaws) (count skew greatest : ℕ) (tale : Tale) (p : Parts
       abbrev pub with_plan : SessionState → Option Item → Parts
       with_plan next admitted = record p { sessions = insert p.sessions s.0 next; journal = pushed admitted p.journal }
 
-      pub client_holds : {N : Type 0} (event : ClientEvent) (rest : List (ℕ × Answer)) (plan : Plan N) (next : SessionState) (new : List ReplyGiven) (leads : Leads) → after_client s now event (cluster_of h.replied p) ≡ after_plan s rest plan (cluster_of h.replied p)
+      pub client_holds : {N : Type 0} (event : ClientEvent) (rest : List (ℕ × Answer)) (plan : Plan N) (next : SessionState)
+          (new : List ReplyGiven) (leads : Leads) → after_client s now event (cluster_of h.replied p) ≡ after_plan s rest plan
+          (cluster_of h.replied p)
           → CanCome s event (cluster_of h.replied p) → lines_in p.term s (Some next) ≡ planned rest plan
           → MayBeFine plan.out.admitted
           → TellsOf s state.client.led (led_after plan.ready.change state.client.led) (coming state.down) (coming rest)
@@ -150,10 +188,12 @@ module _ (laws : EventLaws) (count skew greatest : ℕ) (tale : Tale) (p : Parts
       client_holds event rest plan next new leads does can e fine tells = record {
         replied = with_told s (told_by s plan.ready.change plan.out.admitted) h.replied;
         cluster = subst (λ (c : Cluster). laws.Holds skew (max greatest now) c) (does ∙ plan_seen rest plan next e)
-            (laws.rises skew greatest (max greatest now) (after_client s now event (cluster_of h.replied p)) (omega arith) (laws.client skew greatest now (cluster_of h.replied p) s h.cluster event can within));
+            (laws.rises skew greatest (max greatest now) (after_client s now event (cluster_of h.replied p)) (omega arith)
+            (laws.client skew greatest now (cluster_of h.replied p) s h.cluster event can within));
         many = h.many;
         rows = λ x i row j. joined_still p.sessions s row.session next (h.rows x i row j);
-        parcels = λ f i. brings_still (HasJoined p.sessions) (HasJoined (insert p.sessions s.0 next)) (λ x y. joined_still p.sessions s x next y) f.message (h.parcels f i);
+        parcels = λ f i. brings_still (HasJoined p.sessions) (HasJoined (insert p.sessions s.0 next))
+            (λ x y. joined_still p.sessions s x next y) f.message (h.parcels f i);
         answered =
             subst (λ (ends : Session → Ends). AllTelling ends (with_told s o h.replied) (record { told = tale.told ++ new; leads = leads }))
             (sym ends_then)

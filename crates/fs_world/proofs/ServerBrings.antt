@@ -53,7 +53,8 @@ abbrev pub IsSender : SessionStates → Peer → Type 0
 IsSender sessions (Client s) = HasJoined sessions s
 IsSender sessions (Server i) = Unit {0}
 
-one_brings : (servers k : ℕ) (from : Peer) (e : ServerEvent) (b sessions : SessionStates) (in_flight : List InFlight) → IsSender b from → ((f : InFlight) → In f in_flight → IsCarried servers b f) → IsNext k from e sessions in_flight → IsBrought servers b k e
+one_brings : (servers k : ℕ) (from : Peer) (e : ServerEvent) (b sessions : SessionStates) (in_flight : List InFlight) → IsSender b from
+    → ((f : InFlight) → In f in_flight → IsCarried servers b f) → IsNext k from e sessions in_flight → IsBrought servers b k e
 one_brings servers k (Client s) e b sessions in_flight sender carried h =
     subst (IsBrought servers b k) (sym h.is) (sender, message_readable h.asked.1 h.fits)
 one_brings servers k (Server i) e b sessions in_flight sender carried h =
@@ -69,11 +70,14 @@ pub left_flying : (k : ℕ) (from : Peer) (in_flight : List InFlight) (f : InFli
 left_flying k (Client s) in_flight f i = i
 left_flying k (Server j) in_flight f i = In_without (is_between j k) in_flight f i
 
-pub next_brought : (servers k : ℕ) (from : Peer) (es : List ServerEvent) (b sessions : SessionStates) (in_flight : List InFlight) → IsSender b from → ((f : InFlight) → In f in_flight → IsCarried servers b f) → AreNext k from es sessions in_flight → AreBrought servers b k es
+pub next_brought : (servers k : ℕ) (from : Peer) (es : List ServerEvent) (b sessions : SessionStates) (in_flight : List InFlight)
+    → IsSender b from → ((f : InFlight) → In f in_flight → IsCarried servers b f) → AreNext k from es sessions in_flight
+    → AreBrought servers b k es
 next_brought servers k from [] b sessions in_flight sender carried h = tt
 next_brought servers k from (e ∷ es) b sessions in_flight sender carried h = (
   one_brings servers k from e b sessions in_flight sender carried h.0,
-  next_brought servers k from es b (sessions_without k from sessions) (flying_without k from in_flight) sender (λ f i. carried f (left_flying k from in_flight f i)) h.1,
+  next_brought servers k from es b (sessions_without k from sessions) (flying_without k from in_flight) sender
+      (λ f i. carried f (left_flying k from in_flight f i)) h.1,
 )
 
 -- whoever has joined has, without messages on their way
@@ -86,15 +90,19 @@ one_joined k (Client s) sessions t h = go (get sessions s.0)
     go None = h
     go (Some state) = joined_still sessions s t _ h
 
-pub still_joined : {Y : Type 0} (k : ℕ) (from : Peer) (ys : List Y) (sessions : SessionStates) (t : Session) → HasJoined sessions t → HasJoined (sessions_without_each k from ys sessions) t
+pub still_joined : {Y : Type 0} (k : ℕ) (from : Peer) (ys : List Y) (sessions : SessionStates) (t : Session) → HasJoined sessions t
+    → HasJoined (sessions_without_each k from ys sessions) t
 still_joined k from [] sessions t h = h
 still_joined k from (y ∷ ys) sessions t h = still_joined k from ys (sessions_without k from sessions) t (one_joined k from sessions t h)
 
 -- ## What is sent at all of them
 
-pub all_sent : (servers : ℕ) (sessions : SessionStates) (k : ℕ) → k < servers → ((s : Session) → HasJoined sessions s → is_readable_session s ≡ true) → (now : ℕ) (es : List ServerEvent) (c : Core) → AreBrought servers sessions k es → IsServed servers sessions k c
+pub all_sent : (servers : ℕ) (sessions : SessionStates) (k : ℕ) → k < servers
+    → ((s : Session) → HasJoined sessions s → is_readable_session s ≡ true) → (now : ℕ) (es : List ServerEvent) (c : Core)
+    → AreBrought servers sessions k es → IsServed servers sessions k c
     → AreSent servers sessions k (server_sends now es c)
 all_sent servers sessions k few readable now [] c brought h = tt
 all_sent servers sessions k few readable now (e ∷ es) c brought h =
     let one : IsStepped servers sessions k (step c now e) = step_goes servers sessions k few readable c now e brought.0 h in
-    each_both (IsSent servers sessions k) (step c now e).out.send (server_sends now es (step c now e).server) one.sends (all_sent servers sessions k few readable now es (step c now e).server brought.1 one.server)
+    each_both (IsSent servers sessions k) (step c now e).out.send (server_sends now es (step c now e).server) one.sends
+    (all_sent servers sessions k few readable now es (step c now e).server brought.1 one.server)

@@ -112,7 +112,8 @@ module _ (laws : EventLaws) (count skew greatest : ℕ) (tale : Tale) (p : Parts
     journal = p.journal ++ (step s now e).out.admitted;
   }
 
-  module _ (within : laws.Within skew greatest now) (e : ServerEvent) (before : SessionStates) (taken : lines_of p.term before ≡ without_question k e (lines_of p.term p.sessions))
+  module _ (within : laws.Within skew greatest now) (e : ServerEvent) (before : SessionStates)
+      (taken : lines_of p.term before ≡ without_question k e (lines_of p.term p.sessions))
       (stay : (x : Session) → HasJoined p.sessions x → HasJoined before x) (there : IsThere k e c)
       (asker : IsAsked (HasJoined before) e) where
     step_is : IsOf (HasJoined before) (step s now e)
@@ -217,7 +218,8 @@ module _ (laws : EventLaws) (count skew greatest : ℕ) (tale : Tale) (p : Parts
       ∙ ap (λ (n : Lines). with_lines by (record n { up = without_first (is_with k) n.up }) (lines_of p.term p.sessions))
       (sym (ap (lines_in p.term by) is))
 
-  pub message_holds : laws.Within skew greatest now → (by : Session) (state : SessionState) (m : ℕ × ClientMsg) → get p.sessions by.0 ≡ Some state
+  pub message_holds : laws.Within skew greatest now → (by : Session) (state : SessionState) (m : ℕ × ClientMsg)
+      → get p.sessions by.0 ≡ Some state
       → find (is_with k) state.up ≡ Some m
       → Holds laws count skew (max greatest now) tale
       (after_core (FromClient by m.1) (insert p.sessions by.0 (record state { up = without_first (is_with k) state.up })))

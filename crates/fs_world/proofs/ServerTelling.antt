@@ -39,7 +39,6 @@ use Rattle.fs_client.specs.Led.{lead_of}
 use Rattle.fs_client.specs.declared.exchange.Exchange.{Exchange}
 use Rattle.fs_client.specs.declared.led.Led.{Led}
 use Rattle.fs_client.specs.declared.state.Client.{Client}
-use Rattle.fs_parcel.specs.Parcel.{move_refusal}
 use Rattle.fs_parcel.specs.declared.error.MoveError.{MoveError}
 use Rattle.fs_record.specs.Effects.{tells_its_effects}
 use Rattle.fs_record.specs.declared.led_end.LedEnd.{LedEnd}
@@ -47,7 +46,7 @@ use Rattle.fs_record.specs.declared.led_end.LedEnd.TheVariants as end
 use Rattle.fs_record.specs.declared.led_end.Why.TheVariants as why
 use Rattle.fs_txn.specs.Deciding.{agreed, by_path, commit, decision, first_end, needs_path, reply_of, unless_ended}
 use Rattle.fs_txn.specs.Leading.{awaits_done, elsewhere, end_of_decision, ending_of, leading_of, with_ending, without_done, without_ending}
-use Rattle.fs_txn.specs.Votes.{Votes, awaits, votes_after}
+use Rattle.fs_txn.specs.Votes.{Votes, votes_after}
 use Rattle.fs_txn.specs.declared.decision.Decision.{Decision}
 use Rattle.fs_txn.specs.declared.decision.Decision.TheVariants.{Commit, Abort}
 use Rattle.fs_txn.specs.declared.leader.Leader.{Leader}
@@ -80,12 +79,13 @@ use Rattle.fs_serial.proofs.ClientMessages.Sending.{IsRecallTo, recall_all, reca
 use Rattle.fs_serial.proofs.Lists.EachAt.{each_same}
 use Rattle.fs_serial.proofs.Lists.SetAt.{In_new}
 use Rattle.fs_serial.proofs.Lists.Traffic.{messages, messages_append}
+use Rattle.fs_serial.proofs.Moves.PathSteps.{ArePathSends, each_message, path_stepped, refusal_here, refused}
 use Rattle.fs_serial.proofs.Transactions.LeavesLed.{ask_leaves, move_leaves, ship_leaves, turn_leaves}
 use Rattle.fs_serial.proofs.Transactions.RoundsLocks.{round_by}
 use Rattle.fs_serial.proofs.Transactions.RoundsStages.{rounds_server}
 use Rattle.fs_serial.proofs.Transactions.Tables.{In_all, ending_there}
 use Rattle.fs_serial.proofs.Transactions.ToldOrOwed.{left_same}
-use Rattle.fs_serial.proofs.WholeRuns.LedEnds.{owed_same}
+use Rattle.fs_serial.proofs.Transactions.SeenMeanwhile.{owed_same}
 use Rattle.fs_world.specs.Coming.{item_with, items_with}
 use Rattle.fs_world.specs.Order.{ReplyGiven}
 use Rattle.fs_world.proofs.Coming.{answers_to, more_come, none_comes, one_comes, quiet_comes, sent_line, taken_line, with_more}
@@ -113,6 +113,17 @@ recalls_bring k x (Some d) (m ∷ rest) are =
       | true ↦ more
       | false ↦ more
     ])
+
+-- so do messages of path leases
+none_answered : (k : ℕ) (x : Session) (ms : List (Peer × Msg)) → ArePathSends ms → answers_to k x ms ≡ []
+none_answered k x [] sent = refl
+none_answered k x ((OfServer to, msg.Peer m) ∷ rest) sent = none_answered k x rest sent.1
+none_answered k x ((OfServer to, msg.Answer a) ∷ rest) sent = absurd sent.0
+none_answered k x ((OfServer to, msg.Client a) ∷ rest) sent = absurd sent.0
+none_answered k x ((OfSession to, m) ∷ rest) sent = absurd sent.0
+
+paths_bring : (k : ℕ) (x : Session) (led : Option Led) (ms : List (Peer × Msg)) → ArePathSends ms → Brings k x led ms []
+paths_bring k x led ms sent = ap (λ (answers : List (ℕ × Answer)). items_with x led (messages answers)) (none_answered k x ms sent)
 
 -- an answer that brings nothing, and recalls behind it
 one_brings : (k : ℕ) (x : Session) (led : Option Led) (by : Session) (a : Answer) (rest : List (Peer × Msg))
@@ -185,10 +196,7 @@ replies_with (FromClient by (Renew pairs)) x items replied = sym (append-nil (re
 replies_with (FromClient by (Release pairs)) x items replied = sym (append-nil (replied x))
 replies_with (FromClient by (Ship entries)) x items replied = sym (append-nil (replied x))
 replies_with (FromPeer from (Vote m)) x items replied = items_at items replied x
-replies_with (FromPeer from (OfParcel p)) x items replied = sym (append-nil (replied x))
-replies_with (FromPeer from (Prepare m)) x items replied = sym (append-nil (replied x))
-replies_with (FromPeer from (Decide m)) x items replied = sym (append-nil (replied x))
-replies_with (FromPeer from (Done m)) x items replied = sym (append-nil (replied x))
+replies_with (FromPeer from m) x items replied = sym (append-nil (replied x))
 replies_with Turn x items replied = sym (append-nil (replied x))
 replies_with (TheRecall field) x items replied = sym (append-nil (replied x))
 replies_with (Move prefix to) x items replied = sym (append-nil (replied x))
@@ -201,10 +209,7 @@ none_brought (FromClient by (Renew pairs)) x = refl
 none_brought (FromClient by (Release pairs)) x = refl
 none_brought (FromClient by (Ship entries)) x = refl
 none_brought (FromPeer from (Vote m)) x = refl
-none_brought (FromPeer from (OfParcel p)) x = refl
-none_brought (FromPeer from (Prepare m)) x = refl
-none_brought (FromPeer from (Decide m)) x = refl
-none_brought (FromPeer from (Done m)) x = refl
+none_brought (FromPeer from m) x = refl
 none_brought Turn x = refl
 none_brought (TheRecall field) x = refl
 none_brought (Move prefix to) x = refl
@@ -669,6 +674,9 @@ module _ (k : ℕ) (c : Cluster) (s : Server) (at : slice_get c.servers k ≡ So
             | false ↦ quiet (FromPeer from (Decide m)) (strange b) refl refl refl
           ]
       peer_passes from (Done m) after = done_passes now from m (ending_of m.txn s.ending) refl after
+      peer_passes from m after = each_message (λ (y : Stepped). IsBrought (FromPeer from m) y) b
+          (λ n ms paths asking given noted sent. quiet (FromPeer from m) (path_stepped n ms paths asking given b) refl
+          (paths_bring k x led ms sent) refl) from m tt
 
       message_passes : (by : Session) (m : ClientMsg) → IsThere k (FromClient by m) c → Passes (FromClient by m) (message_step by m b)
       message_passes by (Ask items dir) there after =
@@ -696,7 +704,8 @@ module _ (k : ℕ) (c : Cluster) (s : Server) (at : slice_get c.servers k ≡ So
 
       move_brings : (o : Option MoveError) (prefix : List ℕ) (to : ℕ) → Brings k x led (move_at o prefix to b).out.send []
       move_brings None prefix to = refl
-      move_brings (Some why) prefix to = refl
+      move_brings (Some why) prefix to = refused (λ (y : Stepped). Brings k x led y.out.send []) b
+          (λ n ms paths asking given noted sent. paths_bring k x led ms sent) why prefix to
 
       event_passes : (e : ServerEvent) → IsThere k e c → Passes e (step s now e)
       event_passes (FromClient by m) there after = message_passes by m there after
@@ -706,7 +715,7 @@ module _ (k : ℕ) (c : Cluster) (s : Server) (at : slice_get c.servers k ≡ So
           (recalls_bring k x led (recalls_of (recalled_on field b)) (recall_all (recalled_on field b)))
       event_passes (Move prefix to) there after = plain (Move prefix to) (move_step prefix to b) (λ items. refl)
           (move_leaves k b c prefix to).ending
-          (move_brings (move_refusal b.records b.rows b.map b.me prefix to None) prefix to)
+          (move_brings (refusal_here prefix to b) prefix to)
 
       -- what it was told stays, and what it is told then comes
       pub telling_after : (e : ServerEvent) → IsThere k e c → AsksOne (then e (step s now e)) x

@@ -13,10 +13,13 @@ spent_link counter true e = (refl, cc)
 spent_link counter false e = absurd (cc)
 
 -- the same error under another answer
-pub refused_as : {T U : Type 0} (x : CoreError) (counter : Counter) → Segments ≡ counter → IsErrOf {T = T} (Err x) (errors.Spent Segments) ⊎ IsErrOf {T = T} (Err x) errors.Memory
+pub refused_as : {T U : Type 0} (x : CoreError) (counter : Counter) → Segments ≡ counter → IsErrOf {T =
+    T} (Err x) (errors.Spent Segments) ⊎ IsErrOf {T = T} (Err x) errors.Memory
     → IsErrOf {T = U} (Err x) (errors.Spent counter) ⊎ IsErrOf {T = U} (Err x) errors.Memory
-refused_as {U = U} x counter e (inl p) = inl (let q : x ≡ errors.Spent counter = cc in ap (λ (y : CoreError). let r : Result U CoreError = Err y in r) q)
-refused_as {U = U} x counter e (inr p) = inr (let q : x ≡ errors.Memory = cc in ap (λ (y : CoreError). let r : Result U CoreError = Err y in r) q)
+refused_as {U = U} x counter e (inl p) =
+    inl (let q : x ≡ errors.Spent counter = cc in ap (λ (y : CoreError). let r : Result U CoreError = Err y in r) q)
+refused_as {U = U} x counter e (inr p) =
+    inr (let q : x ≡ errors.Memory = cc in ap (λ (y : CoreError). let r : Result U CoreError = Err y in r) q)
 
 -- what was answered is no error
 pub no_error : {T : Type 0} (x : T) (a b : CoreError) → IsErrOf (Ok x) a ⊎ IsErrOf (Ok x) b → ⊥

@@ -19,14 +19,16 @@ use Rattle.fs_window.specs.Reading.{packet_at}
 use Rattle.fs_window.specs.declared.packet.Packet.{Packet}
 use Rattle.fs_window.specs.declared.sent.Sent.{Sent}
 use Rattle.fs_world.specs.Packets.{first_undelivered}
-use Rattle.fs_world.specs.Served.{Stepped, arrives, comes, do_at, join_at, server_step_at, server_receive_packet_at, step_of, tell_at, client_receive_packet_at, turn_at}
+use Rattle.fs_world.specs.Served.{Stepped, arrives, comes, do_at, join_at, server_step_at, server_receive_packet_at, step_of, tell_at}
+use Rattle.fs_world.specs.Served.{client_receive_packet_at, turn_at}
 use Rattle.fs_world.specs.declared.servers.session_state.SessionState.{SessionState}
 use Rattle.fs_world.specs.declared.servers.world.Served.{Served}
 
 -- so many there are at first
 pub first_count : (n skew term : ℕ) → length (first_servers n skew term) ≡ n
 first_count zero skew term = refl
-first_count (suc n) skew term = omega (arith, length-append (first_servers n skew term) (first_server n skew term ∷ []), first_count n skew term)
+first_count (suc n) skew term =
+    omega (arith, length-append (first_servers n skew term) (first_server n skew term ∷ []), first_count n skew term)
 
 module _ (w : Served) where
   -- as many as before
@@ -49,12 +51,14 @@ module _ (w : Served) where
   hears None now s k p = refl
   hears (Some state) now s k p = refl
 
-  steps : (core : Option Core) (post : Option Links) (k : ℕ) (turn : Bool) (now : ℕ) (e : ServerEvent) → Stay (server_step_at core post k turn now e w)
+  steps : (core : Option Core) (post : Option Links) (k : ℕ) (turn : Bool) (now : ℕ) (e : ServerEvent)
+      → Stay (server_step_at core post k turn now e w)
   steps (Some s) (Some post) k turn now e = length-set w.servers k _
   steps (Some s) None k turn now e = refl
   steps None post k turn now e = refl
 
-  is_told : (core : Option Core) (post : Option Links) (now k : ℕ) (from : Peer) (p : Packet) → Stay (server_receive_packet_at core post now k from p w)
+  is_told : (core : Option Core) (post : Option Links) (now k : ℕ) (from : Peer) (p : Packet)
+      → Stay (server_receive_packet_at core post now k from p w)
   is_told (Some s) (Some post) now k from p = length-set w.servers k _
   is_told (Some s) None now k from p = refl
   is_told None post now k from p = refl

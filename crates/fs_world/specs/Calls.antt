@@ -28,7 +28,9 @@ use Rattle.fs_window.specs.Post.{Links, post_due}
 use Rattle.fs_window.specs.declared.heard.Heard.{Heard}
 use Rattle.fs_world.specs.Direct.{outcome_of}
 use Rattle.fs_world.specs.Packets.{Packets, numbers_from, with_sent}
-use Rattle.fs_world.specs.Served.{SessionStepped, SessionStates, ServerStepped, Stepped, core_of, flying_without, nothing, session_ran, session_stepped, sessions_without, server_found, server_ran, server_stepped, side_of, with_downs, without_each, without_joined}
+use Rattle.fs_world.specs.Served.{SessionStepped, SessionStates, ServerStepped, Stepped, core_of, flying_without, nothing, session_ran}
+use Rattle.fs_world.specs.Served.{session_stepped, sessions_without, server_found, server_ran, server_stepped, side_of, with_downs}
+use Rattle.fs_world.specs.Served.{without_each, without_joined}
 use Rattle.fs_world.specs.declared.servers.session_state.SessionState.{SessionState}
 use Rattle.fs_world.specs.declared.servers.world.Served.{Served}
 
@@ -63,27 +65,33 @@ pub record Spends {T : Type 0} (result : Result T CoreError) (spent : Option Cou
 
 -- nothing happens at the session but that what is due goes out
 abbrev pub state_goes : Session → Bool → Option Peer → Note → SessionState → List Item → Packets → SessionStepped
-state_goes s turn heard n state journal packets = session_stepped s (actor.client_goes turn heard n (side_of state)) state.down state journal packets
+state_goes s turn heard n state journal packets =
+    session_stepped s (actor.client_goes turn heard n (side_of state)) state.down state journal packets
 
 -- its client does what it planned
 abbrev pub client_does : Session → Bool → Option Peer → Bool → Planned Note → SessionState → List Item → Packets → SessionStepped
-client_does s turn heard spent p state journal packets = session_stepped s (actor.client_does turn heard spent p (side_of state)) state.down state journal packets
+client_does s turn heard spent p state journal packets =
+    session_stepped s (actor.client_does turn heard spent p (side_of state)) state.down state journal packets
 
 -- what it heard of the server of number k, where this was one answer at most
 abbrev pub client_hears_one : ℕ → Session → ℕ → Option Peer → Heard → Option Answer → SessionState → List Item → Packets → SessionStepped
-client_hears_one now s k from h heard state journal packets = session_stepped s (actor.client_hears now k from h heard (side_of state)) state.down state journal packets
+client_hears_one now s k from h heard state journal packets =
+    session_stepped s (actor.client_hears now k from h heard (side_of state)) state.down state journal packets
 
 -- an answer of the server of number k comes to it
 abbrev pub client_takes : ℕ → Session → ℕ → Option Peer → Answer → SessionState → List Item → Packets → SessionStepped
-client_takes now s k from a state journal packets = client_does s false from false (client_noted (answer_plan state.client now k a)) state journal packets
+client_takes now s k from a state journal packets =
+    client_does s false from false (client_noted (answer_plan state.client now k a)) state journal packets
 
 -- what came of all that it heard, while no answer is taken off its way
 abbrev pub client_heard : ℕ → Session → ℕ → Option Peer → Heard → SessionState → List Item → Packets → SessionStepped
 client_heard now s k from h state journal packets =
-    session_ran s (client_takes_all s now (TheServer k) from (record { links = state.post; heard = h }) state.client) state.down state journal packets
+    session_ran s (client_takes_all s now (TheServer k) from (record { links = state.post; heard = h }) state.client) state.down state
+    journal packets
 
 -- what came of a run at a session: its client and its links are these, these are the packets behind those before, and this is its outcome
-pub record IsRun (x : ClientRun) (s : Session) (before : Packets) (outcome : Outcome) (client : ClientCore) (post : Links) (packets : Packets) : Type 0 where
+pub record IsRun (x : ClientRun) (s : Session) (before : Packets) (outcome : Outcome) (client : ClientCore) (post : Links)
+    (packets : Packets) : Type 0 where
   pub client_then : client ≡ x.client
   pub post_then : post ≡ x.post
   pub packets_then : packets ≡ with_sent x.packets before
@@ -92,14 +100,16 @@ pub record IsRun (x : ClientRun) (s : Session) (before : Packets) (outcome : Out
 
 -- what it heard of the server of number k, which is on its way no more
 abbrev pub client_hears : ℕ → Session → ℕ → Option Peer → Heard → SessionState → List Item → Packets → SessionStepped
-client_hears now s k from h state journal packets = client_heard now s k from h (record state { down = without_each h.joined (is_with k) state.down }) journal packets
+client_hears now s k from h state journal packets =
+    client_heard now s k from h (record state { down = without_each h.joined (is_with k) state.down }) journal packets
 
 -- nothing happens at the server but that what is due goes out
 abbrev pub server_goes : ℕ → Bool → Option Peer → Note → Option Counter → ServerStepped → ServerStepped
 server_goes k turn heard n spent x = record x {
   post = (post_due x.post turn heard).links;
   packets = with_sent (post_due x.post turn heard).sent x.packets;
-  outcome = record { who = Some (TheServer k); notes = n ∷ []; sent = numbers_from (length x.packets.sent) (post_due x.post turn heard).sent };
+  outcome =
+      record { who = Some (TheServer k); notes = n ∷ []; sent = numbers_from (length x.packets.sent) (post_due x.post turn heard).sent };
   spent = spent;
 }
 
@@ -118,7 +128,8 @@ server_heard now k from replied h x =
 
 -- what came of a run at a server: it and its links are these, what it sends and admits stands behind what was there, these are the
 -- packets behind those before, and this is its outcome
-pub record IsServerRun (y : ServerRun) (k : ℕ) (before : ServerStepped) (outcome : Outcome) (s : Server) (post : Links) (sessions : SessionStates) (in_flight : List InFlight) (journal : List Item) (packets : Packets) : Type 0 where
+pub record IsServerRun (y : ServerRun) (k : ℕ) (before : ServerStepped) (outcome : Outcome) (s : Server) (post : Links)
+    (sessions : SessionStates) (in_flight : List InFlight) (journal : List Item) (packets : Packets) : Type 0 where
   pub server_then : s ≡ y.server
   pub post_then : post ≡ y.post
   pub sessions_then : sessions ≡ with_downs k y.send before.sessions

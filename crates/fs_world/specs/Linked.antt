@@ -5,11 +5,9 @@ use Rattle.std.specs.List.{AllByRecursion, list_all}
 use Rattle.std.specs.FinMap.{get}
 use Rattle.fs_ident.specs.In.{In}
 use Rattle.fs_ident.specs.declared.actor.Peer.{Peer}
-use Rattle.fs_ident.specs.declared.actor.Peer.TheVariants.{Server, Client}
 use Rattle.fs_ident.specs.declared.actor.Session.{Session}
 use Rattle.fs_field.specs.declared.row.Row.{Row}
 use Rattle.fs_field.specs.declared.vote.Vote.{Vote}
-use Rattle.fs_field.specs.declared.vote.Vote.TheVariants as vote
 use Rattle.fs_map.specs.Map.{Owners}
 use Rattle.fs_msg.specs.Ranges.{FitsMessage}
 use Rattle.fs_msg.specs.Readable.{is_readable}
@@ -28,6 +26,8 @@ use Rattle.fs_record.specs.declared.led_end.LedEnd.{LedEnd}
 use Rattle.fs_record.specs.declared.led_end.LedEnd.TheVariants as led
 use Rattle.fs_record.specs.declared.led_end.Why.TheVariants as why
 use Rattle.fs_record.specs.declared.parcel.Parcel.{Parcel}
+use Rattle.fs_serial.specs.Places.{VoteNames}
+use Rattle.fs_serial.specs.Seen.{HasNoPaths}
 use Rattle.fs_serial.specs.declared.in_flight.InFlight.{InFlight}
 use Rattle.fs_server.specs.declared.state.Server.{Server as Core}
 use Rattle.fs_txn.specs.declared.leading.Ending.{Ending}
@@ -95,7 +95,8 @@ pub record GoesBetween (w : Served) (x : Sent) : Type 0 where
 -- the links of all actors carry what is on its way, and nothing was sent to, or heard of, an actor that is not there
 pub record AreTied (w : Served) : Type 0 where
   pub posts : (a : Peer) (post : Links) → post_of w a ≡ Some post → IsPost a post
-  pub pairs : (a b : Peer) (p q : Links) → same_peer a b ≡ false → post_of w a ≡ Some p → post_of w b ≡ Some q → IsPair a b (link_with p b) (link_with q a) (between w a b) w.packets.sent
+  pub pairs : (a b : Peer) (p q : Links) → same_peer a b ≡ false → post_of w a ≡ Some p → post_of w b ≡ Some q
+      → IsPair a b (link_with p b) (link_with q a) (between w a b) w.packets.sent
   pub alone : (a b : Peer) (p : Links) → post_of w a ≡ Some p → post_of w b ≡ None → link_with p b ≡ new_link link_width
   pub between : (x : Sent) → In x w.packets.sent → GoesBetween w x
 
@@ -130,17 +131,12 @@ HasJoined sessions s = (state : SessionState) × (get sessions s.0 ≡ Some stat
 abbrev pub AreOfJoined : SessionStates → List Row → Type 0
 AreOfJoined sessions rows = (row : Row) → In row rows → HasJoined sessions row.session
 
--- a vote names only servers that there are
-abbrev pub IsNamedVote : ℕ → Vote → Type 0
-IsNamedVote servers (vote.Moved prefix to) = to < servers
-IsNamedVote servers v = Unit {0}
-
 -- a transaction of which votes are awaited is of a session that has joined; its parts are asked of servers that there are, and its votes
 -- name no others
 pub record IsLeadingOf (servers : ℕ) (sessions : SessionStates) (l : Leading) : Type 0 where
   pub session : HasJoined sessions l.leader.session
   pub at : (k : ℕ) → In k l.at → k < servers
-  pub votes : (v : Vote) → In (Some v) l.leader.votes → IsNamedVote servers v
+  pub votes : (v : Vote) → In (Some v) l.leader.votes → VoteNames servers v
 
 -- so is one that is decided, and its end names no others
 pub record IsEndingOf (servers : ℕ) (sessions : SessionStates) (x : Ending) : Type 0 where
@@ -157,6 +153,8 @@ pub record IsServed (servers : ℕ) (sessions : SessionStates) (k : ℕ) (s : Co
   pub rows : AreOfJoined sessions s.rows
   pub leading : (l : Leading) → In l s.leading → IsLeadingOf servers sessions l
   pub ending : (x : Ending) → In x s.ending → IsEndingOf servers sessions x
+  -- no server asks for a path yet
+  pub pathless : HasNoPaths s
 
 -- a session asks servers that there are, and is told of such
 pub record IsSoundState (servers : ℕ) (s : Session) (state : SessionState) : Type 0 where
@@ -174,13 +172,14 @@ pub record IsParcelOf (sessions : SessionStates) (p : Parcel) : Type 0 where
   pub rows : AreOfJoined sessions p.rows
 
 -- what a server is told by another one can be told: such a parcel, or a part of a session that has joined, a vote that names servers that
--- there are, and effects that can be read
+-- there are, and effects that can be read; no server sends a message of path leases yet
 abbrev pub Brings : ℕ → SessionStates → PeerMsg → Type 0
 Brings servers sessions (peer.Parcel p) = IsParcelOf sessions p
 Brings servers sessions (peer.Prepare m) = HasJoined sessions m.session
-Brings servers sessions (peer.Vote m) = IsNamedVote servers m.vote
+Brings servers sessions (peer.Vote m) = VoteNames servers m.vote
 Brings servers sessions (peer.Decide m) = list_all is_readable_effect m.effects ≡ true
 Brings servers sessions (peer.Done m) = Unit {0}
+Brings servers sessions m = ⊥
 
 -- a message goes from one server to another, and can be told
 pub record IsCarried (servers : ℕ) (sessions : SessionStates) (f : InFlight) : Type 0 where

@@ -63,7 +63,8 @@ greatest_of greatest (e ∷ es) = greatest_of (max greatest e.reading) es
 abbrev pub AllPartsHold : Head → List Event → Run → Type 0
 AllPartsHold h events r = PartsHold h (greatest_of 0 events) (replies_given events r.outcomes) r.world
 
--- everything is at its place, no two rows conflict, and the namespace that the servers hold together is sound; the direct form has no places
+-- everything is at its place, no two rows conflict, and the namespace that the servers hold together is sound; the direct form has no
+-- places
 abbrev pub IsOrderlyWorld : Form → Type 0
 IsOrderlyWorld (form.Direct w) = Unit {0}
 IsOrderlyWorld (form.Served w) = IsOrderly (seen (λ x. []) w)

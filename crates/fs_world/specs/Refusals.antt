@@ -6,6 +6,7 @@ use Rattle.fs_ident.specs.declared.actor.LeaseNo.{LeaseNo}
 use Rattle.fs_ident.specs.declared.actor.Peer.{Peer}
 use Rattle.fs_ident.specs.declared.actor.Peer.TheVariants as peer
 use Rattle.fs_ident.specs.declared.actor.Session.{Session}
+use Rattle.fs_ident.specs.declared.actor.TxnNo.{TxnNo}
 use Rattle.fs_field.specs.declared.row.Row.{Row}
 use Rattle.fs_field.specs.declared.used.Use.{Use}
 use Rattle.fs_msg.specs.declared.client_msg.ClientMsg.TheVariants.{Ship}
@@ -20,6 +21,7 @@ use Rattle.fs_schedule.specs.declared.event.Event.{Event}
 use Rattle.fs_schedule.specs.declared.event.What.{What}
 use Rattle.fs_schedule.specs.declared.event.What.TheVariants.{Tell}
 use Rattle.fs_serial.specs.Cluster.{is_with, parcels_of}
+use Rattle.fs_serial.specs.EndedLeases.{session_of_txn}
 use Rattle.fs_serial.specs.Joined.{rows_of_all}
 use Rattle.fs_serial.specs.Refusals.{IsFairEnd}
 use Rattle.fs_serial.specs.Steps.{HadEnded}
@@ -61,7 +63,8 @@ pub record HandsIn (w : TheServed) (what : What) : Type 0 where
 -- last one, where these are all rows; the direct form has no servers
 abbrev pub IsFairAnswer : Form → Event → List Row → ℕ → End → List ℕ → Type 0
 IsFairAnswer (Direct w) e rows count at gaps = ⊥
-IsFairAnswer (Served w) e rows count at gaps = (h : HandsIn w e.what) × IsFairEnd rows h.by (max h.server.last e.reading) h.entries count at gaps
+IsFairAnswer (Served w) e rows count at gaps =
+    (h : HandsIn w e.what) × IsFairEnd rows h.by (max h.server.last e.reading) h.entries count at gaps
 
 -- ## Operations that are given up
 
@@ -82,15 +85,34 @@ abbrev pub IsFairLed : Form → List Row → Session → LeaseNo → ℕ → ℕ
 IsFairLed (Direct w) rows by lease end now = ⊥
 IsFairLed (Served w) rows by lease end now = IsEndedLead w rows by lease end now
 
+-- the session that an actor is
+abbrev pub session_at : Peer → Option Session
+session_at (peer.Client by) = Some by
+session_at (peer.Server k) = None
+
+-- the session that sent the packet, if one is told and a session sent it
+abbrev pub sender_of : Option Sent → Option Session
+sender_of None = None
+sender_of (Some packet) = session_at packet.from
+
+-- the transaction is of this session: its leader's table has it for that one before the event, or, where no server has it there, the
+-- session asks for it in the event; in the direct form there are no transactions
+abbrev pub IsOwnTxn : Form → What → TxnNo → Session → Type 0
+IsOwnTxn (Direct w) what txn by = ⊥
+IsOwnTxn (Served w) what txn by = session_of_txn w.servers (sender_of (packet_delivered w what)) txn ≡ Some by
+
 -- ## What is noted
 
--- an answer to a log is one of these; where a server gives up what it led because of a lease, that is so of some session, and where
--- a session hears of it, of this one
-abbrev pub IsFair : (ℕ → End → List ℕ → Type 0) → (Session → LeaseNo → ℕ → ℕ → Type 0) → Option Peer → Note → Type 0
-IsFair answers ended who (note.Server (server.Admits count at gaps)) = answers count at gaps
-IsFair answers ended who (note.Server (server.AbortsEnded txn lease until now)) = (by : Session) × ended by lease until now
-IsFair answers ended who (note.Client (client.LedEnded lease until now)) = (by : Session) × (who ≡ Some (peer.Client by)) × ended by lease until now
-IsFair answers ended who n = Unit {0}
+-- an answer to a log is one of these; where a server gives up what it led because of a lease, that is so of the transaction's own
+-- session, and where a session hears of it, of this one
+abbrev pub IsFair : (ℕ → End → List ℕ → Type 0) → (TxnNo → Session → Type 0) → (Session → LeaseNo → ℕ → ℕ → Type 0) → Option Peer → Note
+    → Type 0
+IsFair answers own ended who (note.Server (server.Admits count at gaps)) = answers count at gaps
+IsFair answers own ended who (note.Server (server.AbortsEnded txn lease until now)) =
+    (by : Session) × own txn by × ended by lease until now
+IsFair answers own ended who (note.Client (client.LedEnded lease until now)) =
+    (by : Session) × (who ≡ Some (peer.Client by)) × ended by lease until now
+IsFair answers own ended who n = Unit {0}
 
 -- all rows of the servers and of the parcels on their way; in the direct form there are no leases
 abbrev pub rows_of : Form → List Row
@@ -99,7 +121,7 @@ rows_of (Served w) = rows_of_all w.servers (parcels_of w.in_flight)
 
 -- the notes of this outcome of the event are so, with the rows that stand after it
 abbrev pub NotesFair : Form → Event → Outcome → List Row → Type 0
-NotesFair w e o rows = AllByRecursion (IsFair (IsFairAnswer w e rows) (IsFairLed w rows) o.who) o.notes
+NotesFair w e o rows = AllByRecursion (IsFair (IsFairAnswer w e rows) (IsOwnTxn w e.what) (IsFairLed w rows) o.who) o.notes
 
 -- those of each event are, one after another, from this world on
 abbrev pub AllFair : Form → List Event → Type 0

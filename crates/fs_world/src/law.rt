@@ -57,7 +57,9 @@ pub fn no_core_is_told_what_is_strange()
 
 /// A server refuses an entry only of the log that the event hands in, and only where a lease that it used has no row any
 /// more, with no server and in no parcel on its way, and had ended at the reading of that event; it says so of that entry
-/// and of its first such lease. It holds back exactly the entries behind it, and none where it refuses none.
+/// and of its first such lease. It holds back exactly the entries behind it, and none where it refuses none. An operation that a
+/// server leads is refused because of a lease only where the transaction's own session waits for an operation to be led that used
+/// that lease, which has no row any more and had ended at the reading that is noted; and a session notes so only where it is that one.
 pub fn refusals_are_fair()
     ensures { (s : Schedule) → FitsHead s.head → AllMayHappen s.head s.events →
         IsTimely s.head s.events → AllWithin (first_world s.head) s.events →

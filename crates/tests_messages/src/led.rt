@@ -11,7 +11,7 @@ use std::test::Fail;
 
 /// A stretch of bytes.
 #[derive(Clone, Copy)]
-enum Piece {
+pub(crate) enum Piece {
     /// These bytes.
     These(&'static [u8]),
     /// Those of the identifier with this text.
@@ -19,7 +19,7 @@ enum Piece {
 }
 
 /// The bytes of the pieces, one after another.
-fn joined(alloc: Global, pieces: &[Piece]) -> Result<Vec<u8>, Fail> {
+pub(crate) fn joined(alloc: Global, pieces: &[Piece]) -> Result<Vec<u8>, Fail> {
     let mut out = Vec::new(alloc);
     for piece in pieces {
         match piece {
@@ -67,7 +67,7 @@ fn left_of(error: ReadError) -> usize {
 }
 
 /// Each row is.
-fn are_values<T: Wire + Debug>(
+pub(crate) fn are_values<T: Wire + Debug>(
     rt: &impl Abort,
     alloc: Global,
     table: &[(&[Piece], &str)],
@@ -79,7 +79,7 @@ fn are_values<T: Wire + Debug>(
 }
 
 /// Nothing is read of the pieces: reading stops at a tag or at another byte, with so many bytes left.
-fn stops<T: Wire>(
+pub(crate) fn stops<T: Wire>(
     rt: &impl Abort,
     alloc: Global,
     pieces: &[Piece],
@@ -96,9 +96,9 @@ fn stops<T: Wire>(
 }
 
 /// The count of a list with 2^60 values. With nothing behind it the bytes are too few: a tag is wanting, and no room is taken.
-const MANY: Piece = Piece::These(&[16, 0, 0, 0, 0, 0, 0, 0]);
+pub(crate) const MANY: Piece = Piece::These(&[16, 0, 0, 0, 0, 0, 0, 0]);
 
-const ONE: Piece = Piece::These(&[0, 0, 0, 0, 0, 0, 0, 1]);
+pub(crate) const ONE: Piece = Piece::These(&[0, 0, 0, 0, 0, 0, 0, 1]);
 
 const EFFECTS: [(&[Piece], &str); 8] = [
     (
@@ -507,5 +507,5 @@ fn messages_that_carry_them(rt: HostRuntime) -> Result<(), Fail> {
     stops::<Msg>(&rt, alloc, &[Piece::These(&[6])], true, 1)?;
     stops::<Msg>(&rt, alloc, &[Piece::These(&[23])], true, 1)?;
     stops::<Msg>(&rt, alloc, &[Piece::These(&[32])], true, 1)?;
-    stops::<Msg>(&rt, alloc, &[Piece::These(&[38])], true, 1)
+    stops::<Msg>(&rt, alloc, &[Piece::These(&[43])], true, 1)
 }

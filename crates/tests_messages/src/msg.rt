@@ -3,6 +3,7 @@ mod counts;
 mod faults;
 mod messages;
 mod parcels;
+mod paths;
 
 use crate::{copied, err_of, reads};
 use fs_ident::{FileId, Peer, Session};

@@ -13,7 +13,10 @@ use Rattle.fs_msg.specs.declared.item.Item.{Item}
 use Rattle.fs_server.specs.Ships.{item_of, with_entry}
 use Rattle.fs_server.specs.declared.state.Server.{Server}
 use Rattle.fs_view.specs.ViewLease.{makes}
-use Rattle.fs_serial.specs.Fresh.{ByLease, ByLog, Claim, HoldsFresh, Reserves, reserved_by}
+use Rattle.fs_record.specs.Applied.{records_after_all}
+use Rattle.fs_record.specs.Effects.{effects_of}
+use Rattle.fs_record.specs.Records.{RecordMap}
+use Rattle.fs_serial.specs.Fresh.{ByLease, ByLog, Claim, FreshReserved, HoldsFresh, Reserves, reserved_by}
 use Rattle.fs_serial.specs.Parts.{AllHold, SessionHolds, SessionFits, with_client}
 use Rattle.fs_record.specs.ValueOf.{value_of}
 use Rattle.fs_serial.specs.Pending.{AllStand, IsAnswer, IsEntry, named_by}
@@ -139,6 +142,15 @@ module _ (o : Counts) (skew greatest : ℕ) (s : Server) (journal : List Item) (
       spent (ByLease n) r = made_held by (effects_in by e) d.leases n id (makes_there by e.op e.reply id ∙ named_makes e.uses e.op e.reply id plain.named is) r
       spent ByLog r = fits.once.0 r.entry id r.among is r.named
 
+  reserved : (stored : RecordMap) → FreshReserved (reserved_by clients) stored journal → FreshReserved (reserved_by all) (records_after_all stored (effects_of by e.op e.reply)) after.journal
+  reserved stored f = fresh_then s journal by e plain right h.kept.sound stored (reserved_by clients) (reserved_by all) fewer named used_up f
+
+  -- so it is of other records that are stored
+  pub reserved_beside : (stored : RecordMap) → FreshReserved (reserved_by clients) stored journal
+      → FreshReserved (reserved_by (with_client by (acknowledged by d.log d) clients)) (records_after_all stored (effects_of by e.op e.reply)) after.journal
+  reserved_beside stored f =
+      subst (λ c. FreshReserved (reserved_by (with_client by c clients)) (records_after_all stored (effects_of by e.op e.reply)) after.journal) is_then (reserved stored f)
+
   kept : AllHold skew greatest after replied all
   kept = record {
     servers = record {
@@ -152,11 +164,11 @@ module _ (o : Counts) (skew greatest : ℕ) (s : Server) (journal : List Item) (
       counted = h.kept.counted;
       given = h.kept.given;
       sound = admit.sound o skew greatest s journal by (replied by) d.leases e a.rest d.next d.led stand h.servers h.kept holds fits;
-      made = made_then s journal by e plain right h.kept.sound (reserved_by clients) (reserved_by all) fewer named used_up h.reserved h.kept.made;
+      made = made_then s journal by e plain right h.kept.sound s.records (reserved_by clients) (reserved_by all) fewer named used_up h.reserved h.kept.made;
     };
     sessions = sessions;
     fitting = fitting;
-    reserved = fresh_then s journal by e plain right h.kept.sound (reserved_by clients) (reserved_by all) fewer named used_up h.reserved;
+    reserved = reserved s.records h.reserved;
   }
 
   pub admit_kept : AllHold skew greatest after replied (with_client by (acknowledged by d.log d) clients)

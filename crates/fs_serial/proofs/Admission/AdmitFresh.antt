@@ -24,7 +24,7 @@ use Rattle.fs_record.specs.declared.record.Record.{Record}
 use Rattle.fs_field.specs.After.{changed_file}
 use Rattle.fs_record.specs.Applied.{records_after, record_change}
 use Rattle.fs_record.specs.Effects.{effects_of}
-use Rattle.fs_record.specs.Fresh.{is_dir, is_directory}
+use Rattle.fs_record.specs.Fresh.{is_directory}
 use Rattle.fs_record.specs.Records.{RecordMap, node_of, next_of}
 use Rattle.fs_record.specs.ValueOf.{value_of}
 use Rattle.fs_record.proofs.Kept.{get_with_at}
@@ -32,12 +32,14 @@ use Rattle.fs_record.proofs.NodeValues.{key_is}
 use Rattle.fs_server.specs.Ships.{item_of, with_entry}
 use Rattle.fs_server.specs.declared.state.Server.{Server}
 use Rattle.fs_record.specs.Applied.{records_after_all}
+use Rattle.fs_view.specs.ViewLease.{makes}
 use Rattle.fs_view.proofs.Seeing.{own_values}
 use Rattle.fs_serial.specs.Fresh.{made, made_by, or_else, ByLog, Claim, IsMade, NodesMade, IsAtOrBelow, Reserved, FreshReserved}
 use Rattle.fs_serial.specs.Pending.{IsAnswer, IsEntry, named_by}
 use Rattle.fs_serial.specs.Serial.{AreSound}
 use Rattle.fs_serial.proofs.Admission.Answered.{answered}
-use Rattle.fs_serial.proofs.Admission.Births.{life_after, names_made}
+use Rattle.fs_serial.proofs.Admission.Births.{life_after, makes_there, names_made}
+use Rattle.fs_serial.proofs.DecidedEffects.FewerDirectories.{was_directory}
 use Rattle.fs_serial.proofs.Grants.Claims.{Was, one_still, was_there}
 use Rattle.fs_serial.proofs.Lists.Journals.{made-append, made_before, below-trans, below_itself}
 
@@ -85,11 +87,6 @@ no_end by (op.Close file h) reply.Closed = refl
 no_end by (op.Set file h size stamp) reply.Set = refl
 no_end by o r = refl
 
--- where a directory stands after the entry, it stood before or the entry made it
-dir_before : (a k : Option Kind) → is_dir (or_else a k) ≡ true → (is_some a ≡ true) ⊎ (is_dir k ≡ true)
-dir_before None k h = inr h
-dir_before (Some x) k h = inl refl
-
 -- ## Identifiers below one another
 
 not_below_itself : (dir : List ℕ) (k : ℕ) → IsAtOrBelow (child dir k) dir → ⊥
@@ -98,13 +95,14 @@ not_below_itself dir k p = let q = ap length p.1 in let a = length-append (child
 below_child : (dir : List ℕ) (k : ℕ) → IsAtOrBelow dir (child dir k)
 below_child dir k = (k ∷ [], refl)
 
+-- the records that are stored are given beside those in which the entry got its reply
 module _ (s : Server) (journal : List Item) (by : Session) (e : Entry) (plain : IsEntry e) (right : IsAnswer (value_of s.records by) e) (sound : AreSound s.records)
-    (old new : Reserved) (fewer : (x : Session) (n : Claim) (i : List ℕ) → new x n i → Was (old x) n i)
+    (stored : RecordMap) (old new : Reserved) (fewer : (x : Session) (n : Claim) (i : List ℕ) → new x n i → Was (old x) n i)
     (named : (id : List ℕ) → named_by e.op ≡ Some id → old by ByLog id)
     (used_up : (n : Claim) (id : List ℕ) → named_by e.op ≡ Some id → new by n id → ⊥)
-    (f : FreshReserved old s.records journal) where
+    (f : FreshReserved old stored journal) where
   abbrev m : RecordMap
-  m = (with_entry by e s).records
+  m = records_after_all stored (effects_of by e.op e.reply)
 
   abbrev js : List Item
   js = journal ++ item_of by e ∷ []
@@ -112,16 +110,15 @@ module _ (s : Server) (journal : List Item) (by : Session) (e : Entry) (plain : 
   abbrev makes_it : List ℕ → Type 0
   makes_it id = is_some (made_by e.op e.reply id) ≡ true
 
-  next_same : (id : List ℕ) → next_of (get m id) ≡ next_of (get s.records id)
-  next_same id = next_all s.records (effects_of by e.op e.reply) id (no_end by e.op e.reply)
+  next_same : (id : List ℕ) → next_of (get m id) ≡ next_of (get stored id)
+  next_same id = next_all stored (effects_of by e.op e.reply) id (no_end by e.op e.reply)
 
-  kind_then : (id : List ℕ) → kind_of (node_of (get m id)) ≡ or_else (made_by e.op e.reply id) (kind_of (node_of (get s.records id)))
-  kind_then id =
-      let q : value_of m by (Life id) ≡ value.Life (or_else (made_by e.op e.reply id) (kind_of (node_of (get s.records id)))) = own_values s.records by e.op e.reply (Life id) sound.records plain.plain (answered s.records by e plain right) ∙ life_after by e.op e.reply id (kind_of (node_of (get s.records id))) in
-      cc
-
-  was_dir : (dir : List ℕ) → is_directory m dir ≡ true → makes_it dir ⊎ (is_directory s.records dir ≡ true)
-  was_dir dir h = dir_before (made_by e.op e.reply dir) (kind_of (node_of (get s.records dir))) (ap is_dir (sym (kind_then dir)) ∙ h)
+  was_dir : (dir : List ℕ) → is_directory m dir ≡ true → makes_it dir ⊎ (is_directory stored dir ≡ true)
+  was_dir dir h = elim (list_any (makes dir) (effects_of by e.op e.reply)) as
+      (λ b. list_any (makes dir) (effects_of by e.op e.reply) ≡ b → makes_it dir ⊎ (is_directory stored dir ≡ true)) [
+        | true ↦ λ t. inl (sym (makes_there by e.op e.reply dir) ∙ t)
+        | false ↦ λ t. inr (was_directory stored (effects_of by e.op e.reply) dir t h).0
+      ] refl
 
   -- the entry had reserved the file that it makes
   held : (id : List ℕ) → makes_it id → old by ByLog id
@@ -175,14 +172,19 @@ module _ (s : Server) (journal : List Item) (by : Session) (e : Entry) (plain : 
 
   pub fresh_then : FreshReserved new m js
   fresh_then = record {
-    once = λ x y n k i j a b p. one_still old s.records journal f x y n k i j (fewer x n i a) (fewer y k j b) p;
+    once = λ x y n k i j a b p. one_still old stored journal f x y n k i j (fewer x n i a) (fewer y k j b) p;
     unmade = unmade;
     made_before = made_first;
     reserved_before = reserved_first;
   }
 
+  kind_then : (id : List ℕ) → kind_of (node_of (get (with_entry by e s).records id)) ≡ or_else (made_by e.op e.reply id) (kind_of (node_of (get s.records id)))
+  kind_then id =
+      let q : value_of (with_entry by e s).records by (Life id) ≡ value.Life (or_else (made_by e.op e.reply id) (kind_of (node_of (get s.records id)))) = own_values s.records by e.op e.reply (Life id) sound.records plain.plain (answered s.records by e plain right) ∙ life_after by e.op e.reply id (kind_of (node_of (get s.records id))) in
+      cc
+
   -- what lives was made
-  pub made_then : NodesMade s.records journal → NodesMade m js
+  pub made_then : NodesMade s.records journal → NodesMade (with_entry by e s).records js
   made_then nodes id kind h = made-append journal (item_of by e) id ∙ within (made_by e.op e.reply id) refl
     where
       within : (a : Option Kind) → made_by e.op e.reply id ≡ a → or_else (made journal id) a ≡ Some kind

@@ -70,7 +70,7 @@ module _ (skew greatest : ℕ) (s : Sight) (replied : Session → List Item) (en
           (let q = h.all.sessions by in record { backed = q.backed; telling = q.telling; pending = q.pending; numbers = q.numbers; replies = q.replies })
           (λ x other. h.all.sessions x);
       fitting = each_session (λ x c. SessionFits skew greatest s x c) by d clients (refused_fits (h.all.fitting by)) (λ x other. h.all.fitting x);
-      reserved = fewer_reserved (reserved_by clients) (reserved_by (with_client by d clients)) s.records s.journal still h.all.reserved;
+      reserved = fewer_reserved (reserved_by clients) (reserved_by (with_client by d clients)) s.stored s.journal still h.all.reserved;
     };
     carried = carried_alike skew greatest s ends clients by d (λ l i. record { lease = l; held = i; number = refl }) (λ l i. record { lease = l; held = i; number = refl }) h.carried;
   }

@@ -23,7 +23,7 @@ use Rattle.fs_view.specs.Walk.{always, walk}
 use Rattle.fs_serial.specs.Decided.{AllDecidedStand}
 use Rattle.fs_serial.specs.Parts.{with_client}
 use Rattle.fs_serial.specs.Settled.{Lease, Settled, acknowledged, acknowledged_all, effects_in, lease_after, with_over}
-use Rattle.fs_serial.specs.Sight.{Counts, seen, sight_of}
+use Rattle.fs_serial.specs.Sight.{Counts, Sight, seen, sight_beside, sight_of, sight_with}
 use Rattle.fs_serial.specs.Steps.{IsAdmitted}
 use Rattle.fs_serial.specs.World.{Ends, GoesOn, HasNumber}
 use Rattle.fs_serial.proofs.Admission.AdmitAll as admit
@@ -32,11 +32,12 @@ use Rattle.fs_serial.proofs.OtherSessions.ClientChanges.{goes_again}
 use Rattle.fs_serial.proofs.Admission.Answered.{covered_there}
 use Rattle.fs_serial.proofs.Places.Elsewhere.{none_refused, over_still}
 use Rattle.fs_serial.proofs.Lists.Journals.{known_nodes}
-use Rattle.fs_serial.proofs.OneServer.LeaseChanges.{carried_alike}
+use Rattle.fs_serial.proofs.OneServer.LeaseChanges.{carried_alike, goes_restored}
 use Rattle.fs_serial.proofs.OtherSessions.Gone.{made_more}
 use Rattle.fs_serial.proofs.DecidedEffects.GrantsPast.{gone_there}
 use Rattle.fs_serial.proofs.Admission.Refusing.{entry_refused}
 use Rattle.fs_serial.proofs.DecidedEffects.StandPast.{AllApart, held_past, stand_past}
+use Rattle.fs_serial.proofs.DecidedEffects.StoredBeside.{all_seen, goes_seen}
 use Rattle.fs_serial.proofs.OtherSessions.Together.{its_client}
 
 -- ## One entry
@@ -67,36 +68,45 @@ module _ (o : Counts) (skew greatest : ℕ) (journal : List Item) (replied : Ses
     pub more : List Item
     pub split : x.admitted ≡ admitted ++ more
     pub decided : AllDecidedStand ds x.server (journal ++ x.admitted)
-    pub goes : GoesOn skew greatest (sight_of o (seen ds x.server) (journal ++ x.admitted)) replied ends (with_client by (with_over (over_after x.end d.over) (acknowledged_all by (length more) d)) base)
+    pub goes : GoesOn skew greatest (sight_with o ds x.server (journal ++ x.admitted)) replied ends (with_client by (with_over (over_after x.end d.over) (acknowledged_all by (length more) d)) base)
     pub few : length more ≤ length es
     pub fits : refusal_fits x.end (length more) es ≡ true
 
   -- the entry goes past what is decided
-  admitted_apart : (e : Entry) (s : Server) (now : List Item) (d : Settled) → IsAdmitted (seen ds s) by (with_client by d base by) e → AllDecidedStand ds s now → GoesOn skew greatest (sight_of o (seen ds s) now) replied ends (with_client by d base) → AllApart ds (effects_of by e.op e.reply)
+  admitted_apart : (e : Entry) (s : Server) (now : List Item) (d : Settled) → IsAdmitted (seen ds s) by (with_client by d base by) e → AllDecidedStand ds s now → GoesOn skew greatest (sight_with o ds s now) replied ends (with_client by d base) → AllApart ds (effects_of by e.op e.reply)
   admitted_apart e s now d is under h x i z j =
       let there = seen ds s in
       let clients = with_client by d base in
-      let stand = admit.stand o skew greatest there now replied clients by e h.all is in
-      let plain = admit.plain o skew greatest there now replied clients by e h.all is in
-      let right = admit.right o skew greatest there now replied clients by e h.all is in
+      let all = all_seen ds s now under o skew greatest replied clients h.all in
+      let stand = admit.stand o skew greatest there now replied clients by e all is in
+      let plain = admit.plain o skew greatest there now replied clients by e all is in
+      let right = admit.right o skew greatest there now replied clients by e all is in
       let q = under.stand x i in
       entry_apart (nodes_of there.records) s.rows by x.by e.uses h.all.servers.apart (others x i) stand x.effect q.decided q.guarded (gone_there ds s now under x i)
       e.op e.reply (ap (λ k. (walk k always e.op).reply) (sym (known_nodes there.records by)) ∙ right.reply) (covered_there there.records by e plain right) z j
 
-  admitted_then : (e : Entry) (es rest : List Entry) (s : Server) (admitted : List Item) (d : Settled) → d.log ≡ e ∷ (es ++ rest) → d.over ≡ None → first_gone s.rows by e.uses ≡ None → AllDecidedStand ds s (journal ++ admitted) → GoesOn skew greatest (sight_of o (seen ds s) (journal ++ admitted)) replied ends (with_client by d base)
-      → AllDecidedStand ds (with_entry by e s) (journal ++ (admitted ++ item_of by e ∷ [])) × GoesOn skew greatest (sight_of o (seen ds (with_entry by e s)) (journal ++ (admitted ++ item_of by e ∷ []))) replied ends (with_client by (acknowledged by (e ∷ (es ++ rest)) d) base)
+  admitted_then : (e : Entry) (es rest : List Entry) (s : Server) (admitted : List Item) (d : Settled) → d.log ≡ e ∷ (es ++ rest) → d.over ≡ None → first_gone s.rows by e.uses ≡ None → AllDecidedStand ds s (journal ++ admitted) → GoesOn skew greatest (sight_with o ds s (journal ++ admitted)) replied ends (with_client by d base)
+      → AllDecidedStand ds (with_entry by e s) (journal ++ (admitted ++ item_of by e ∷ [])) × GoesOn skew greatest (sight_with o ds (with_entry by e s) (journal ++ (admitted ++ item_of by e ∷ []))) replied ends (with_client by (acknowledged by (e ∷ (es ++ rest)) d) base)
   admitted_then e es rest s admitted d log over found under h =
       let there = seen ds s in
       let now = journal ++ admitted in
       let t = with_entry by e there in
       let is : IsAdmitted there by (with_client by d base by) e = subst (λ c. IsAdmitted there by c e) (sym (its_client by d base)) (record { rest = es ++ rest; log = log; going = over; found = found }) in
       let apart = admitted_apart e s now d is under h in
-      let after = goes_again skew greatest (sight_of o t (now ++ item_of by e ∷ [])) replied ends base by d (λ c. acknowledged by c.log c) (entry_admitted o skew greatest there now replied ends (with_client by d base) by e is h) in (
+      let stored = (with_entry by e s).records in
+      let clients = with_client by d base in
+      let joined = goes_seen ds s now under o skew greatest replied clients ends h in
+      let later : Sight = sight_beside stored o t (now ++ item_of by e ∷ []) in
+      let admitted_there = goes_restored skew greatest (sight_of o t (now ++ item_of by e ∷ [])) stored replied ends
+      (with_client by (acknowledged by (clients by).log (clients by)) clients)
+      (admit.reserved_beside o skew greatest there now replied clients by e joined.all is s.records h.all.reserved)
+      (entry_admitted o skew greatest there now replied ends clients by e is joined) in
+      let after = goes_again skew greatest later replied ends base by d (λ c. acknowledged by c.log c) admitted_there in (
         subst (AllDecidedStand ds (with_entry by e s)) (append_assoc journal admitted (item_of by e ∷ []))
             (stand_past ds s now under (effects_of by e.op e.reply) apart (now ++ item_of by e ∷ []) (λ id was. made_more now (item_of by e) id was)),
-        subst (λ m. GoesOn skew greatest (sight_of o (record s { records = m }) (journal ++ (admitted ++ item_of by e ∷ []))) replied ends (with_client by (acknowledged by (e ∷ (es ++ rest)) d) base)) (sym (held_past ds s now under (effects_of by e.op e.reply) apart))
-            (subst (λ js. GoesOn skew greatest (sight_of o t js) replied ends (with_client by (acknowledged by (e ∷ (es ++ rest)) d) base)) (append_assoc journal admitted (item_of by e ∷ []))
-            (subst (λ log. GoesOn skew greatest (sight_of o t (now ++ item_of by e ∷ [])) replied ends (with_client by (acknowledged by log d) base)) log after)),
+        subst (λ m. GoesOn skew greatest (sight_beside stored o (record s { records = m }) (journal ++ (admitted ++ item_of by e ∷ []))) replied ends (with_client by (acknowledged by (e ∷ (es ++ rest)) d) base)) (sym (held_past ds s now under (effects_of by e.op e.reply) apart))
+            (subst (λ js. GoesOn skew greatest (sight_beside stored o t js) replied ends (with_client by (acknowledged by (e ∷ (es ++ rest)) d) base)) (append_assoc journal admitted (item_of by e ∷ []))
+            (subst (λ log. GoesOn skew greatest later replied ends (with_client by (acknowledged by log d) base)) log after)),
       )
 
   went_on : (e : Entry) (es rest : List Entry) (admitted : List Item) (d : Settled) (x : Shipping) → d.log ≡ e ∷ (es ++ rest) → IsShipped es (acknowledged by (e ∷ (es ++ rest)) d) (admitted ++ item_of by e ∷ []) x → IsShipped (e ∷ es) d admitted x
@@ -106,42 +116,42 @@ module _ (o : Counts) (skew greatest : ℕ) (journal : List Item) (replied : Ses
         more = item_of by e ∷ r.more;
         split = r.split ∙ append_assoc admitted (item_of by e ∷ []) r.more;
         decided = r.decided;
-        goes = subst (λ log. GoesOn skew greatest (sight_of o (seen ds x.server) (journal ++ x.admitted)) replied ends (with_client by (with_over (over_after x.end d.over) (acknowledged_all by (length r.more) (acknowledged by log d))) base)) (sym log) r.goes;
+        goes = subst (λ log. GoesOn skew greatest (sight_with o ds x.server (journal ++ x.admitted)) replied ends (with_client by (with_over (over_after x.end d.over) (acknowledged_all by (length r.more) (acknowledged by log d))) base)) (sym log) r.goes;
         few = omega arith;
         fits = refusal_step x.end (length r.more) e es ∙ r.fits;
       }
 
-  refused_then : (e : Entry) (es rest : List Entry) (s : Server) (admitted : List Item) (d : Settled) (u : Use) (gaps : List ℕ) → d.log ≡ e ∷ (es ++ rest) → first_gone s.rows by e.uses ≡ Some u → AllDecidedStand ds s (journal ++ admitted) → GoesOn skew greatest (sight_of o (seen ds s) (journal ++ admitted)) replied ends (with_client by d base)
+  refused_then : (e : Entry) (es rest : List Entry) (s : Server) (admitted : List Item) (d : Settled) (u : Use) (gaps : List ℕ) → d.log ≡ e ∷ (es ++ rest) → first_gone s.rows by e.uses ≡ Some u → AllDecidedStand ds s (journal ++ admitted) → GoesOn skew greatest (sight_with o ds s (journal ++ admitted)) replied ends (with_client by d base)
       → IsShipped (e ∷ es) d admitted (record { server = s; admitted = admitted; end = end.Ended e.n u.no u.until s.last; gaps = gaps })
   refused_then e es rest s admitted d u gaps log gone under h = record {
     more = [];
     split = sym (append-nil admitted);
     decided = under;
-    goes = goes_again skew greatest (sight_of o (seen ds s) (journal ++ admitted)) replied ends base by d (with_over (Some e.n))
-        (entry_refused skew greatest (sight_of o (seen ds s) (journal ++ admitted)) replied ends (with_client by d base) by e (es ++ rest) u (ap (λ (c : Settled). c.log) (its_client by d base) ∙ log) gone h);
+    goes = goes_again skew greatest (sight_with o ds s (journal ++ admitted)) replied ends base by d (with_over (Some e.n))
+        (entry_refused skew greatest (sight_with o ds s (journal ++ admitted)) replied ends (with_client by d base) by e (es ++ rest) u (ap (λ (c : Settled). c.log) (its_client by d base) ∙ log) gone h);
     few = omega arith;
     fits = nat_eq_equiv.refl e.n;
   }
 
   -- handed in at the wrong server
-  away_then : (e : Entry) (es : List Entry) (s : Server) (admitted : List Item) (d : Settled) → AllDecidedStand ds s (journal ++ admitted) → GoesOn skew greatest (sight_of o (seen ds s) (journal ++ admitted)) replied ends (with_client by d base)
+  away_then : (e : Entry) (es : List Entry) (s : Server) (admitted : List Item) (d : Settled) → AllDecidedStand ds s (journal ++ admitted) → GoesOn skew greatest (sight_with o ds s (journal ++ admitted)) replied ends (with_client by d base)
       → IsShipped (e ∷ es) d admitted (record { server = s; admitted = admitted; end = moved s (home_of e.op); gaps = [] })
   away_then e es s admitted d under h = record {
     more = [];
     split = sym (append-nil admitted);
     decided = under;
-    goes = subst (λ n. GoesOn skew greatest (sight_of o (seen ds s) (journal ++ admitted)) replied ends (with_client by (with_over n d) base)) (sym (over_still s (home_of e.op) d.over)) h;
+    goes = subst (λ n. GoesOn skew greatest (sight_with o ds s (journal ++ admitted)) replied ends (with_client by (with_over n d) base)) (sym (over_still s (home_of e.op) d.over)) h;
     few = omega arith;
     fits = none_refused s (home_of e.op) 0 (e ∷ es);
   }
 
-  ends_then : (e : Entry) (es rest : List Entry) (s : Server) (admitted : List Item) (d : Settled) (at : End) (gaps : List ℕ) → ShipEnds by e es s at gaps → d.log ≡ e ∷ (es ++ rest) → AllDecidedStand ds s (journal ++ admitted) → GoesOn skew greatest (sight_of o (seen ds s) (journal ++ admitted)) replied ends (with_client by d base)
+  ends_then : (e : Entry) (es rest : List Entry) (s : Server) (admitted : List Item) (d : Settled) (at : End) (gaps : List ℕ) → ShipEnds by e es s at gaps → d.log ≡ e ∷ (es ++ rest) → AllDecidedStand ds s (journal ++ admitted) → GoesOn skew greatest (sight_with o ds s (journal ++ admitted)) replied ends (with_client by d base)
       → IsShipped (e ∷ es) d admitted (record { server = s; admitted = admitted; end = at; gaps = gaps })
   ends_then e es rest s admitted d at gaps (refused u mine gone) log under h = refused_then e es rest s admitted d u (map (λ (x : Entry). x.n) es) log gone under h
   ends_then e es rest s admitted d at gaps (misplaced mine) log under h = away_then e es s admitted d under h
 
-  pub shipped_still : (es : List Entry) (s : Server) (admitted : List Item) (rest : List Entry) (d : Settled) → d.log ≡ es ++ rest → d.over ≡ None → AllDecidedStand ds s (journal ++ admitted) → GoesOn skew greatest (sight_of o (seen ds s) (journal ++ admitted)) replied ends (with_client by d base) → IsShipped es d admitted (ship_from by es s admitted)
-  shipped_still = each_entry by (λ es s admitted x. (rest : List Entry) (d : Settled) → d.log ≡ es ++ rest → d.over ≡ None → AllDecidedStand ds s (journal ++ admitted) → GoesOn skew greatest (sight_of o (seen ds s) (journal ++ admitted)) replied ends (with_client by d base) → IsShipped es d admitted x)
+  pub shipped_still : (es : List Entry) (s : Server) (admitted : List Item) (rest : List Entry) (d : Settled) → d.log ≡ es ++ rest → d.over ≡ None → AllDecidedStand ds s (journal ++ admitted) → GoesOn skew greatest (sight_with o ds s (journal ++ admitted)) replied ends (with_client by d base) → IsShipped es d admitted (ship_from by es s admitted)
+  shipped_still = each_entry by (λ es s admitted x. (rest : List Entry) (d : Settled) → d.log ≡ es ++ rest → d.over ≡ None → AllDecidedStand ds s (journal ++ admitted) → GoesOn skew greatest (sight_with o ds s (journal ++ admitted)) replied ends (with_client by d base) → IsShipped es d admitted x)
       (λ s admitted rest d log over under h. record { more = []; split = sym (append-nil admitted); decided = under; goes = h; few = omega arith; fits = refl })
       (λ e es s admitted x mine none p rest d log over under h. let q = admitted_then e es rest s admitted d log over none under h in went_on e es rest admitted d x log (p rest (acknowledged by (e ∷ (es ++ rest)) d) refl over q.0 q.1))
       (λ e es s admitted at gaps why rest d log over under h. ends_then e es rest s admitted d at gaps why log under h)

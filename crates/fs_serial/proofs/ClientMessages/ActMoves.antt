@@ -51,7 +51,7 @@ use Rattle.fs_serial.proofs.ClientMessages.Sends.{AreOfGivenKinds, session_asks}
 pub record ServersMoved (s t : Sight) : Type 0 where
   pub holds : ServersHold s → ServersHold t
   pub fits : ServersFit s → ServersFit t
-  pub reserved : (clients : Session → Settled) → FreshReserved (reserved_by clients) s.records s.journal → FreshReserved (reserved_by clients) t.records t.journal
+  pub reserved : (clients : Session → Settled) → FreshReserved (reserved_by clients) s.stored s.journal → FreshReserved (reserved_by clients) t.stored t.journal
 
 -- what comes of a plan of the client, which has begun
 pub record IsPlanned {N : Type 0} (skew greatest : ℕ) (s : Sight) (by : Session) (replied : List Item) (c : Client) (up : List ClientMsg) (down rest : List Answer) (p : Plan N) : Type 0 where

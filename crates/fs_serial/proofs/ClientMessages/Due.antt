@@ -6,16 +6,16 @@ use Rattle.fs_ident.specs.In.{In}
 use Rattle.fs_ident.specs.declared.actor.Peer.{Peer}
 use Rattle.fs_ident.specs.declared.actor.Peer.TheVariants.{Client as OfSession, Server as OfServer}
 use Rattle.fs_ident.specs.declared.actor.Session.{Session}
-use Rattle.fs_field.specs.declared.vote.Vote.{Vote}
 use Rattle.fs_msg.specs.declared.answer.Answer.{Answer}
 use Rattle.fs_msg.specs.declared.answer.Answer.TheVariants.{Granted, Shipped}
 use Rattle.fs_msg.specs.declared.client_msg.ClientMsg.{ClientMsg}
 use Rattle.fs_msg.specs.declared.client_msg.ClientMsg.TheVariants.{Ask, Renew, Release, Ship, Lead}
 use Rattle.fs_msg.specs.declared.entry.Entry.{Entry}
 use Rattle.fs_msg.specs.declared.msg.Msg.{Msg}
+use Rattle.fs_msg.specs.declared.msg.Msg.TheVariants as msg
 use Rattle.fs_msg.specs.declared.peer_msg.PeerMsg.{PeerMsg}
 use Rattle.fs_msg.specs.declared.peer_msg.PeerMsg.TheVariants as peer
-use Rattle.fs_parcel.specs.Parcel.{move_refusal, parcel_of}
+use Rattle.fs_parcel.specs.Parcel.{parcel_of}
 use Rattle.fs_parcel.specs.declared.error.MoveError.{MoveError}
 use Rattle.fs_record.specs.Effects.{tells_its_effects}
 use Rattle.fs_record.specs.declared.parcel.Parcel.{Parcel}
@@ -23,7 +23,7 @@ use Rattle.fs_server.specs.Asks.{asked_in, recalls_at}
 use Rattle.fs_server.specs.Follows.{to_server}
 use Rattle.fs_server.specs.Moves.{fits_here, move_at, parcel_at, peer_step}
 use Rattle.fs_server.specs.Reaps.{lapsed_in, reap_from, recalls_for, turn_over}
-use Rattle.fs_server.specs.Server.{strange, to_session}
+use Rattle.fs_server.specs.Server.{Stepped, strange, to_session}
 use Rattle.fs_server.specs.Ships.{ship_from, shipped}
 use Rattle.fs_server.specs.Step.{event_step, recalled_on, recalls_of}
 use Rattle.fs_server.specs.declared.event.ServerEvent.{ServerEvent}
@@ -31,6 +31,7 @@ use Rattle.fs_server.specs.declared.event.ServerEvent.TheVariants as event
 use Rattle.fs_server.specs.declared.state.Server.{Server}
 use Rattle.fs_serial.specs.Words.{IsNoneOfLed}
 use Rattle.fs_serial.proofs.WholeRuns.Addressing.{AreDue, recalls_due}
+use Rattle.fs_serial.proofs.Moves.PathSteps.{ArePathSends, each_message, refusal_here, refused, sent_path}
 use Rattle.fs_serial.proofs.ClientMessages.Sending.{IsRecallTo, recall_all, recall_each, recall_with}
 
 -- ## Answers
@@ -73,16 +74,23 @@ module _ (k : ℕ) (asked : Session → Option ℕ) where
     | inr z ↦ absurd z
   ]
 
+  -- nor do messages of path leases
+  paths_due : (ms : List (Peer × Msg)) → ArePathSends ms → AreDue k ms asked
+  paths_due ms sent to a i d = absurd (sent_path ms sent (OfSession to, msg.Answer a) i)
+
   peer_due : (from : ℕ) (m : PeerMsg) (s : Server) → IsNoneOfLed (event.FromPeer from m) → AreDue k (peer_step from m s).out.send asked
   peer_due from (peer.Parcel p) s none = parcel_due (fits_here p s) p s
   peer_due from (peer.Prepare m) s none = absurd (cc none)
   peer_due from (peer.Vote m) s none = absurd (cc none)
   peer_due from (peer.Decide m) s none = absurd (cc none)
   peer_due from (peer.Done m) s none = absurd (cc none)
+  peer_due from m s none = each_message (λ (x : Stepped). AreDue k x.out.send asked) s
+      (λ n ms paths asking given noted sent. paths_due ms sent) from m tt
 
   move_due : (o : Option MoveError) (prefix : List ℕ) (to : ℕ) (s : Server) → AreDue k (move_at o prefix to s).out.send asked
   move_due None prefix to s = server_due to (peer.Parcel (parcel_of s.records s.rows s.map s.me prefix))
-  move_due (Some why) prefix to s = none_due
+  move_due (Some why) prefix to s = refused (λ (x : Stepped). AreDue k x.out.send asked) s
+      (λ n ms paths asking given noted sent. paths_due ms sent) why prefix to
 
   -- the session that is told asked
   abbrev pub HasAsked : ServerEvent → Type 0
@@ -94,4 +102,4 @@ module _ (k : ℕ) (asked : Session → Option ℕ) where
   event_due (event.FromPeer from m) s none due = peer_due from m s none
   event_due event.Turn s none due = turn_due (lapsed_in s) s
   event_due (event.Recall field) s none due = recalls_due k (recalls_of (recalled_on field s)) asked (recall_all (recalled_on field s))
-  event_due (event.Move prefix to) s none due = move_due (move_refusal s.records s.rows s.map s.me prefix to None) prefix to s
+  event_due (event.Move prefix to) s none due = move_due (refusal_here prefix to s) prefix to s

@@ -9,7 +9,7 @@ use Rattle.fs_msg.specs.declared.client_note.ClientNote.{ClientNote}
 use Rattle.fs_msg.specs.declared.item.Item.{Item}
 use Rattle.fs_record.specs.declared.led_end.LedEnd.{LedEnd}
 use Rattle.fs_record.specs.declared.led_end.LedEnd.TheVariants as end
-use Rattle.fs_client.specs.Answers.{answer_fits, ended_plan, fits, hear, led_plan, told, strange}
+use Rattle.fs_client.specs.Answers.{answer_fits, ended_plan, fits, hear, led_plan, fitting_plan, strange}
 use Rattle.fs_client.specs.Client.{changed}
 use Rattle.fs_client.specs.declared.exchange.Exchange.{Exchange}
 use Rattle.fs_client.specs.declared.led.Led.{Led as TheLed}
@@ -59,7 +59,7 @@ module _ (skew greatest : ℕ) (s : Sight) (by : Session) (replied : List Item) 
   led_moves l is (end.Ended lease until now) h = record { state = session_led skew greatest s by replied c up l is (end.Ended lease until now) rest h; reserves = same_reserves _ (seen_at by c (Led (end.Ended lease until now) ∷ rest)) (led_seen skew greatest s by replied c up l is (end.Ended lease until now) rest h) }
   led_moves l is (end.Again why) h = record { state = session_led skew greatest s by replied c up l is (end.Again why) rest h; reserves = same_reserves _ (seen_at by c (Led (end.Again why) ∷ rest)) (led_seen skew greatest s by replied c up l is (end.Again why) rest h) }
 
-  told_moved : (a : Answer) → SessionStateHolds skew greatest s by replied c up (a ∷ rest) → Moves a (told a c)
+  told_moved : (a : Answer) → SessionStateHolds skew greatest s by replied c up (a ∷ rest) → Moves a (fitting_plan a c)
   told_moved (Granted gs fresh e) h = record { state = session_granted skew greatest s by replied c up gs fresh e rest h; reserves = same_reserves _ (seen_at by c (Granted gs fresh e ∷ rest)) (granted_seen skew greatest s by replied c up gs fresh e rest h) }
   told_moved (Renewed ends e) h = record { state = session_renewed skew greatest s by replied c up ends e rest h; reserves = renewed_reserves skew greatest s by replied c up ends e rest h }
   told_moved (Released count e) h = record { state = session_released skew greatest s by replied c up count e rest h; reserves = same_reserves _ (seen_at by c (Released count e ∷ rest)) (released_seen skew greatest s by replied c up count e rest h) }
@@ -81,4 +81,4 @@ module _ (skew greatest : ℕ) (s : Sight) (by : Session) (replied : List Item) 
 
   -- the answer is never strange, and the session goes on as it was to
   pub hear_moved : (from : ℕ) (a : Answer) → (is_recall a ≡ false → asked_server c.exchange ≡ Some from) → SessionStateHolds skew greatest s by replied c up (a ∷ rest) → Moves a (hear from a c)
-  hear_moved from a at h = subst (λ b. Moves a (cond b (told a c) (strange c))) (sym (fits_first from a at h)) (told_moved a h)
+  hear_moved from a at h = subst (λ b. Moves a (cond b (fitting_plan a c) (strange c))) (sym (fits_first from a at h)) (told_moved a h)

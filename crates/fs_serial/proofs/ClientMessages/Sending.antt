@@ -33,7 +33,7 @@ use Rattle.fs_serial.specs.Exchange.{due, is_recall, ExchangeFits, IsQuestion, O
 use Rattle.fs_serial.specs.Leases.{IsBacked}
 use Rattle.fs_serial.specs.Parts.{AllHold, with_client}
 use Rattle.fs_serial.specs.Settled.{Settled, settled, settled_now, told}
-use Rattle.fs_serial.specs.Sight.{seen, sight_of}
+use Rattle.fs_serial.specs.Sight.{sight_with}
 use Rattle.fs_serial.specs.World.{Ends, GoesOn, World, WorldHolds, settled_at, sight_in, with_answer, with_sent, without_question}
 use Rattle.fs_serial.proofs.OtherSessions.Older.{IsLater, later_pairs}
 use Rattle.fs_serial.proofs.ClientMessages.Settling.{stays}
@@ -90,14 +90,14 @@ fit_still skew greatest later_greatest given then rows new x e pairs returns ren
 }
 
 -- the server changed, and nothing is on its way
-pub world_still : (greatest : ℕ) (w : World) (t : Server) (journal : List Item) → t.skew ≡ w.server.skew → t.last ≤ greatest → IsLater (sight_in w).given (sight_of w.counts (seen w.decided t) journal).given w.server.rows t.rows → GoesOn w.server.skew greatest (sight_of w.counts (seen w.decided t) journal) w.replied w.ends (λ x. settled_at x (w.ends x)) → WorldHolds greatest w
+pub world_still : (greatest : ℕ) (w : World) (t : Server) (journal : List Item) → t.skew ≡ w.server.skew → t.last ≤ greatest → IsLater (sight_in w).given (sight_with w.counts w.decided t journal).given w.server.rows t.rows → GoesOn w.server.skew greatest (sight_with w.counts w.decided t journal) w.replied w.ends (λ x. settled_at x (w.ends x)) → WorldHolds greatest w
     → WorldHolds greatest (record { server = t; counts = w.counts; decided = w.decided; journal = journal; replied = w.replied; ends = w.ends })
 world_still greatest w t journal skew clock later goes h = record {
-  all = subst (λ k. AllHold k greatest (sight_of w.counts (seen w.decided t) journal) w.replied (λ x. settled_at x (w.ends x))) (sym skew) goes.all;
+  all = subst (λ k. AllHold k greatest (sight_with w.counts w.decided t journal) w.replied (λ x. settled_at x (w.ends x))) (sym skew) goes.all;
   clock = clock;
   clients = h.clients;
-  exchanges = λ x. subst (λ k. EndsFit k greatest (sight_of w.counts (seen w.decided t) journal).given t.rows x (w.ends x)) (sym skew)
-      (fit_still w.server.skew greatest greatest (sight_in w).given (sight_of w.counts (seen w.decided t) journal).given w.server.rows t.rows x (w.ends x) (later_pairs (sight_in w).given (sight_of w.counts (seen w.decided t) journal).given w.server.rows t.rows later (w.ends x).up (h.exchanges x).pairs) (goes.carried.returns x) (goes.carried.renewals x) (h.exchanges x));
+  exchanges = λ x. subst (λ k. EndsFit k greatest (sight_with w.counts w.decided t journal).given t.rows x (w.ends x)) (sym skew)
+      (fit_still w.server.skew greatest greatest (sight_in w).given (sight_with w.counts w.decided t journal).given w.server.rows t.rows x (w.ends x) (later_pairs (sight_in w).given (sight_with w.counts w.decided t journal).given w.server.rows t.rows later (w.ends x).up (h.exchanges x).pairs) (goes.carried.returns x) (goes.carried.renewals x) (h.exchanges x));
 }
 
 -- ## A lease is asked back
@@ -205,8 +205,8 @@ module _ (greatest : ℕ) (w : World) (t : Server) (journal : List Item) (by : S
       (λ x q. settled-push x (w.ends x).down a (settled_now (w.ends x).client) ∙ subst (λ y. told y a (base y) ≡ with_client by (told by a (base by)) base y) (one_session by x q) (sym (its_client by (told by a (base by)) base)))
       (λ x q. sym (other_client by x (told by a (base by)) base q)))
 
-  module _ (ds : List Decided) (replied : Session → List Item) (skew : t.skew ≡ w.server.skew) (clock : t.last ≤ greatest) (later_then : IsLater (sight_in w).given (sight_of w.counts (seen ds t) journal).given w.server.rows t.rows) (goes : GoesOn w.server.skew greatest (sight_of w.counts (seen ds t) journal) replied w.ends (with_client by (told by a (base by)) base)) (answers : is_recall a ≡ false) (fits : (x : Exchange) → (w.ends by).client.exchange ≡ Some x → IsQuestion x m → answer_fits (server_of_question x) x a (w.ends by).client ≡ true) (renewals : (ends : List (LeaseNo × Option ℕ)) (e : End) → a ≡ Renewed ends e → (n : LeaseNo) (until : ℕ) → In (n, Some until) ends → IsBacked t.rows n until) where
-    own_fit : EndsFit w.server.skew greatest (sight_of w.counts (seen ds t) journal).given t.rows by (taken a (w.ends by))
+  module _ (ds : List Decided) (replied : Session → List Item) (skew : t.skew ≡ w.server.skew) (clock : t.last ≤ greatest) (later_then : IsLater (sight_in w).given (sight_with w.counts ds t journal).given w.server.rows t.rows) (goes : GoesOn w.server.skew greatest (sight_with w.counts ds t journal) replied w.ends (with_client by (told by a (base by)) base)) (answers : is_recall a ≡ false) (fits : (x : Exchange) → (w.ends by).client.exchange ≡ Some x → IsQuestion x m → answer_fits (server_of_question x) x a (w.ends by).client ≡ true) (renewals : (ends : List (LeaseNo × Option ℕ)) (e : End) → a ≡ Renewed ends e → (n : LeaseNo) (until : ℕ) → In (n, Some until) ends → IsBacked t.rows n until) where
+    own_fit : EndsFit w.server.skew greatest (sight_with w.counts ds t journal).given t.rows by (taken a (w.ends by))
     own_fit =
         let e = w.ends by in
         let o = h.exchanges by in
@@ -223,27 +223,27 @@ module _ (greatest : ℕ) (w : World) (t : Server) (journal : List Item) (by : S
           released = o.released;
           kinds = λ items fresh i. absurd i;
           pairs = λ m i. absurd i;
-          returns = subst (λ (d : Settled). ReturnsFit (sight_of w.counts (seen ds t) journal).given t.rows by e.client.view.leases d.leases) (its_client by (told by a (base by)) base ∙ sym (settled-push by e.down a (settled_now e.client))) (goes.carried.returns by);
+          returns = subst (λ (d : Settled). ReturnsFit (sight_with w.counts ds t journal).given t.rows by e.client.view.leases d.leases) (its_client by (told by a (base by)) base ∙ sym (settled-push by e.down a (settled_now e.client))) (goes.carried.returns by);
           renewals = λ ends end i number until j l k q late. elim (In-append (Renewed ends end) e.down (a ∷ []) i) as (λ _. IsBacked t.rows number until) [
             | inl old ↦ goes.carried.renewals by ends end old number until j l k q late
             | inr new ↦ elim new as (λ _. IsBacked t.rows number until) [ inl z ↦ renewals ends end (sym z) number until j | inr z ↦ absurd z ]
           ];
         }
 
-    other_fit : (x : Session) → (by.0 == x.0) ≡ false → EndsFit w.server.skew greatest (sight_of w.counts (seen ds t) journal).given t.rows x (w.ends x)
-    other_fit x q = fit_still w.server.skew greatest greatest (sight_in w).given (sight_of w.counts (seen ds t) journal).given w.server.rows t.rows x (w.ends x)
-        (later_pairs (sight_in w).given (sight_of w.counts (seen ds t) journal).given w.server.rows t.rows later_then (w.ends x).up (h.exchanges x).pairs)
-        (subst (λ (d : Settled). ReturnsFit (sight_of w.counts (seen ds t) journal).given t.rows x (w.ends x).client.view.leases d.leases) (other_client by x (told by a (base by)) base q) (goes.carried.returns x))
+    other_fit : (x : Session) → (by.0 == x.0) ≡ false → EndsFit w.server.skew greatest (sight_with w.counts ds t journal).given t.rows x (w.ends x)
+    other_fit x q = fit_still w.server.skew greatest greatest (sight_in w).given (sight_with w.counts ds t journal).given w.server.rows t.rows x (w.ends x)
+        (later_pairs (sight_in w).given (sight_with w.counts ds t journal).given w.server.rows t.rows later_then (w.ends x).up (h.exchanges x).pairs)
+        (subst (λ (d : Settled). ReturnsFit (sight_with w.counts ds t journal).given t.rows x (w.ends x).client.view.leases d.leases) (other_client by x (told by a (base by)) base q) (goes.carried.returns x))
         (goes.carried.renewals x) (h.exchanges x)
 
     pub world_answered : WorldHolds greatest (record { server = t; counts = w.counts; decided = ds; journal = journal; replied = replied; ends = with_answer by a (without_question by w.ends) })
     world_answered = subst (λ (ends : Session → Ends). WorldHolds greatest (record { server = t; counts = w.counts; decided = ds; journal = journal; replied = replied; ends = ends })) (sym ends_are) (record {
-      all = subst (λ k. AllHold k greatest (sight_of w.counts (seen ds t) journal) replied (λ (x : Session). settled_at x (cond (by.0 == x.0) (taken a (w.ends x)) (w.ends x)))) (sym skew)
-          (subst (λ (c : Session → Settled). AllHold w.server.skew greatest (sight_of w.counts (seen ds t) journal) replied c) (sym settled_are) goes.all);
+      all = subst (λ k. AllHold k greatest (sight_with w.counts ds t journal) replied (λ (x : Session). settled_at x (cond (by.0 == x.0) (taken a (w.ends x)) (w.ends x)))) (sym skew)
+          (subst (λ (c : Session → Settled). AllHold w.server.skew greatest (sight_with w.counts ds t journal) replied c) (sym settled_are) goes.all);
       clock = clock;
       clients = each_end (λ x e. ClientFits x e.client) by (taken a) w.ends (λ x q. h.clients x) (λ x q. h.clients x);
-      exchanges = subst (λ k. (x : Session) → EndsFit k greatest (sight_of w.counts (seen ds t) journal).given t.rows x (cond (by.0 == x.0) (taken a (w.ends x)) (w.ends x))) (sym skew)
-          (each_end (λ x e. EndsFit w.server.skew greatest (sight_of w.counts (seen ds t) journal).given t.rows x e) by (taken a) w.ends
-          (λ x q. subst (λ y. EndsFit w.server.skew greatest (sight_of w.counts (seen ds t) journal).given t.rows y (taken a (w.ends y))) (one_session by x q) own_fit)
+      exchanges = subst (λ k. (x : Session) → EndsFit k greatest (sight_with w.counts ds t journal).given t.rows x (cond (by.0 == x.0) (taken a (w.ends x)) (w.ends x))) (sym skew)
+          (each_end (λ x e. EndsFit w.server.skew greatest (sight_with w.counts ds t journal).given t.rows x e) by (taken a) w.ends
+          (λ x q. subst (λ y. EndsFit w.server.skew greatest (sight_with w.counts ds t journal).given t.rows y (taken a (w.ends y))) (one_session by x q) own_fit)
           other_fit);
     })

@@ -13,10 +13,13 @@ use Rattle.fs_txn.specs.Grants.{Decided, effects_in}
 use Rattle.fs_txn.proofs.Guarded.{guarded_apart}
 use Rattle.fs_txn.proofs.Past.{decide_past}
 use Rattle.fs_serial.specs.Decided.{DecideKeepsAll, DecidedFits, IsOwnApart, WorldStands, after_decide}
+use Rattle.fs_serial.specs.Fresh.{FreshReserved, reserved_by}
 use Rattle.fs_serial.specs.Parts.{AllHold}
-use Rattle.fs_serial.specs.Sight.{seen, sight_of}
-use Rattle.fs_serial.specs.World.{World, WorldHolds, settled_at}
+use Rattle.fs_serial.specs.Sight.{seen, sight_beside}
+use Rattle.fs_serial.specs.World.{World, WorldHolds, settled_at, sight_in}
+use Rattle.fs_serial.proofs.DecidedEffects.FewerDirectories.{fewer_held, reserved_there}
 use Rattle.fs_serial.proofs.DecidedEffects.StandPast.{AllApart}
+use Rattle.fs_serial.proofs.OneServer.LeaseChanges.{all_restored}
 use Rattle.fs_serial.proofs.DecidedEffects.Underway.{PlaceStays, are_apart, are_decided, effect_of, going_past, locks_stay, place_same, stands_then}
 
 module _ (greatest : ℕ) (w : World) (front its back : List Decided) (whole : w.decided ≡ front ++ (its ++ back)) (own : IsOwnApart (front ++ back) its) (h : WorldStands greatest w) where
@@ -65,9 +68,16 @@ module _ (greatest : ℕ) (w : World) (front its back : List Decided) (whole : w
       ∙ ap (λ es. held_with es s.records) (sym split)
       ∙ ap (λ ds. held_with (effects_in ds) s.records) (sym whole)
 
+  -- fewer directories are stored then
+  reserved_then : FreshReserved (reserved_by (λ x. settled_at x (w.ends x))) then w.journal
+  reserved_then =
+      reserved_there (reserved_by (λ x. settled_at x (w.ends x))) s.records then w.journal
+      (fewer_held s.records (effects_in its) (are_decided its (λ d i. (f.all.stand d (its_there d i)).decided))) h.0.all.reserved
+
   decide_holds : WorldHolds greatest (after_decide front its back w)
   decide_holds = record {
-    all = subst (λ (m : RecordMap). AllHold s.skew greatest (sight_of w.counts (record s { records = m }) w.journal) w.replied (λ x. settled_at x (w.ends x))) (sym same_held) h.0.all;
+    all = subst (λ (m : RecordMap). AllHold s.skew greatest (sight_beside then w.counts (record s { records = m }) w.journal) w.replied (λ x. settled_at x (w.ends x))) (sym same_held)
+        (all_restored s.skew greatest (sight_in w) then w.replied w.ends (λ x. settled_at x (w.ends x)) reserved_then h.0.all);
     clock = h.0.clock;
     clients = h.0.clients;
     exchanges = h.0.exchanges;

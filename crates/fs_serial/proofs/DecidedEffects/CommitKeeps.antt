@@ -5,8 +5,6 @@ use Rattle.std.specs.List.{flat_map, list_any}
 use Rattle.fs_ident.specs.Ident.{same}
 use Rattle.fs_ident.specs.In.{In}
 use Rattle.fs_ident.specs.declared.actor.Session.{Session}
-use Rattle.fs_ident.specs.declared.kind.Kind.{Kind}
-use Rattle.fs_ident.specs.declared.kind.Kind.TheVariants.{File}
 use Rattle.fs_ident.proofs.Same.{same_self}
 use Rattle.fs_ident.proofs.Standing.{In-append, In-behind, In-got, In-map}
 use Rattle.fs_field.specs.Field.{file_of}
@@ -44,7 +42,7 @@ use Rattle.fs_serial.specs.Cluster.{Cluster}
 use Rattle.fs_serial.specs.Commits.{IsCommitted}
 use Rattle.fs_serial.specs.Conclusions.{after_concluded}
 use Rattle.fs_serial.specs.Decided.{WorldStands}
-use Rattle.fs_serial.specs.Leading.{IsLeading, IsLedBy, LedHolds, StaysIn}
+use Rattle.fs_serial.specs.Leading.{IsLeading, IsLedBy, LedHolds}
 use Rattle.fs_serial.specs.Led.{IsLeadAnswer, LedStands}
 use Rattle.fs_serial.specs.Owed.{ends_in}
 use Rattle.fs_serial.specs.Pending.{HasUse, IsCovered}
@@ -52,12 +50,12 @@ use Rattle.fs_serial.specs.Words.{key_of, said_at}
 use Rattle.fs_serial.specs.World.{World, settled_at, sight_in}
 use Rattle.fs_serial.specs.Seen.{ClusterHolds, world_of}
 use Rattle.fs_serial.proofs.DecidedEffects.CommitSeen.{decision_is, own_on}
-use Rattle.fs_serial.proofs.DecidedEffects.CommitStands.{IsOfFiles, commit_stands}
+use Rattle.fs_serial.proofs.DecidedEffects.CommitStands.{commit_stands}
 use Rattle.fs_serial.proofs.DecidedEffects.FileApart.{IsFileApart, file_apart}
 use Rattle.fs_serial.proofs.DecidedEffects.HeldSeen.{held_seen}
 use Rattle.fs_serial.proofs.LedOperations.MovedItems.{HasMoved, HasPlace, moved_items, moved_parts, placed_items}
 use Rattle.fs_serial.proofs.Places.PutRecords.{AreOn}
-use Rattle.fs_serial.proofs.Transactions.FullCommits.{all_stand, full_commits, is_plain}
+use Rattle.fs_serial.proofs.Transactions.FullCommits.{all_stand, full_commits}
 use Rattle.fs_serial.proofs.Transactions.Tables.{In_all, said_so}
 use Rattle.fs_serial.proofs.Transactions.Undecided.{up_led}
 use Rattle.fs_serial.proofs.Transactions.YesesStand.{session_stands}
@@ -136,12 +134,6 @@ module _ (values : Field → Value) (d : TheLed) (leads : is_led d.entry.op d.en
       } in
       subst (λ (x : Part). IsUsed x.uses x.file) (sym q.1.1) its
 
--- what commits deletes no directory
-files_only : (o : Op) (kind : Kind) → (kind ≡ File) ⊎ StaysIn o → IsOfFiles o kind
-files_only (op.Delete dir name) kind (inl e) = e
-files_only (op.Delete dir name) kind (inr t) = absurd t
-files_only o kind q = tt
-
 module _ (k skew greatest : ℕ) (c : Cluster) (s : Server) (at : slice_get c.servers k ≡ Some s) (h : ClusterHolds skew greatest c)
     (l : Leading) (there : In l s.leading) (yes : first_end l.leader.votes ≡ None) where
   here : In s c.servers
@@ -192,9 +184,6 @@ module _ (k skew greatest : ℕ) (c : Cluster) (s : Server) (at : slice_get c.se
       let r = (h.led.locks s here).locked y all u.used u.among in
       sym (ap (is_mine s) (ap file_of r.has.field ∙ u.file)) ∙ (h.places.homes s here).rows r.has.row r.has.stands
 
-  files_are : IsOfFiles d.entry.op d.kind
-  files_are = files_only d.entry.op d.kind (is_plain k skew greatest c s at h l there yes)
-
   -- the law of a commit that is split by the servers of its parts
   module _ (splits : CommitSplits) where
     pub own_files : AreOn (is_mine s) (own_effects s.me l (decision l.leader None))
@@ -210,4 +199,4 @@ module _ (k skew greatest : ℕ) (c : Cluster) (s : Server) (at : slice_get c.se
     pub commit_keeps : LedHolds (after_concluded k l s c) → WorldStands greatest
         (world_of (concludes l [] s).server (after_concluded k l s c))
     commit_keeps led = commit_stands k skew greatest c s at h l there yes
-        (up_led skew greatest c s here h by s here l there refl d leads.client.led) committed files_are apart own splits led
+        (up_led skew greatest c s here h by s here l there refl d leads.client.led) committed apart own splits led

@@ -7,8 +7,6 @@ use Rattle.fs_ident.specs.Ident.{same}
 use Rattle.fs_ident.specs.In.{In}
 use Rattle.fs_ident.specs.declared.actor.Peer.TheVariants.{Client}
 use Rattle.fs_ident.specs.declared.actor.Session.{Session}
-use Rattle.fs_ident.specs.declared.kind.Kind.{Kind}
-use Rattle.fs_ident.specs.declared.kind.Kind.TheVariants.{File}
 use Rattle.fs_ident.proofs.Standing.{In-append, In-behind, In-filter, In-got, In-map, In-mapped}
 use Rattle.fs_field.specs.declared.effect.Effect.{Effect}
 use Rattle.fs_field.specs.declared.effect.Effect.TheVariants.{SetChild, SetParent, NewNode, RemoveNode, AddHandle, RemoveHandle, SetInfo}
@@ -25,7 +23,6 @@ use Rattle.fs_msg.specs.declared.item.Item.{Item}
 use Rattle.fs_msg.specs.declared.lead.Lead.{Lead as ToLead}
 use Rattle.fs_parcel.proofs.Both.{passing}
 use Rattle.fs_record.specs.Applied.{records_after_all}
-use Rattle.fs_record.specs.Fresh.{is_dir}
 use Rattle.fs_record.specs.LedEffects.{led_effects}
 use Rattle.fs_record.specs.Records.{AreRecords, RecordMap, node_of, nodes_of}
 use Rattle.fs_record.specs.ValueOf.{handles_of}
@@ -80,25 +77,19 @@ use Rattle.fs_serial.proofs.Places.RelockedRows.{home_relock}
 use Rattle.fs_serial.proofs.Transactions.ToldOrOwed.{ends_hold, told}
 use Rattle.fs_serial.proofs.WholeRuns.Views.{alike_holds, count_set}
 
--- what is deleted is a file, and no directory
-abbrev pub IsOfFiles : Op → Kind → Type 0
-IsOfFiles (op.Delete dir name) kind = kind ≡ File
-IsOfFiles o kind = Unit {0}
-
 -- it is the file of the operation
-goes_file : (o : Op) (file f : List ℕ) (kind : Kind) → IsOfFiles o kind → In (RemoveNode f) (led_effects o file (reply_of o))
-    → (file ≡ f) × (kind ≡ File)
-goes_file (op.Delete dir name) file f kind q (inl e) = let wrong : RemoveNode f ≡ SetChild dir name None = e in absurd (cc wrong)
-goes_file (op.Delete dir name) file f kind q (inr (inl e)) = let same : RemoveNode f ≡ RemoveNode file = e in (cc, q)
-goes_file (op.Delete dir name) file f kind q (inr (inr z)) = absurd z
-goes_file (op.Rename sdir sname ddir dname) file f kind q (inl e) =
+goes_file : (o : Op) (file f : List ℕ) → In (RemoveNode f) (led_effects o file (reply_of o)) → file ≡ f
+goes_file (op.Delete dir name) file f (inl e) = let wrong : RemoveNode f ≡ SetChild dir name None = e in absurd (cc wrong)
+goes_file (op.Delete dir name) file f (inr (inl e)) = let same : RemoveNode f ≡ RemoveNode file = e in cc
+goes_file (op.Delete dir name) file f (inr (inr z)) = absurd z
+goes_file (op.Rename sdir sname ddir dname) file f (inl e) =
     let wrong : RemoveNode f ≡ SetChild ddir dname (Some file) = e in absurd (cc wrong)
-goes_file (op.Rename sdir sname ddir dname) file f kind q (inr (inl e)) =
+goes_file (op.Rename sdir sname ddir dname) file f (inr (inl e)) =
     let wrong : RemoveNode f ≡ SetChild sdir sname None = e in absurd (cc wrong)
-goes_file (op.Rename sdir sname ddir dname) file f kind q (inr (inr (inl e))) =
+goes_file (op.Rename sdir sname ddir dname) file f (inr (inr (inl e))) =
     let wrong : RemoveNode f ≡ SetParent file ddir dname = e in absurd (cc wrong)
-goes_file (op.Rename sdir sname ddir dname) file f kind q (inr (inr (inr z))) = absurd z
-goes_file o file f kind q i = absurd i
+goes_file (op.Rename sdir sname ddir dname) file f (inr (inr (inr z))) = absurd z
+goes_file o file f i = absurd i
 
 module _ (k skew greatest : ℕ) (c : Cluster) (s : Server) (at : slice_get c.servers k ≡ Some s) (h : ClusterHolds skew greatest c)
     (l : Leading) (there : In l s.leading) (yes : first_end l.leader.votes ≡ None) where
@@ -161,7 +152,7 @@ module _ (k skew greatest : ℕ) (c : Cluster) (s : Server) (at : slice_get c.se
 
   module _ (up : (ends_in c by).up ≡ message.Lead m ∷ [])
       (committed : IsCommitted (sight_in w) by (settled_at by (ends_in c by)) d.entry d.file)
-      (of_files : IsOfFiles d.entry.op d.kind) (apart : IsFileApart d.entry.op d.file)
+      (apart : IsFileApart d.entry.op d.file)
       (own : (n : ℕ × ℕ) (p : Part) → In n (own_parts s.me l) → slice_get l.leader.parts n.0 ≡ Some p → is_mine s p.file ≡ true)
       (splits : CommitSplits) (led : LedHolds then) where
     away : same l.leader.file (home_of l.leader.op) ≡ false
@@ -221,6 +212,7 @@ module _ (k skew greatest : ℕ) (c : Cluster) (s : Server) (at : slice_get c.se
               ∙ ap (λ es. held_with (effects_in (decided_in c ++ decided_for by (going sends es)))
               (records_after_all records (staying sends es)))
               effects_are;
+          stored = records_then ∙ ap (λ es. records_after_all records (staying sends es)) effects_are;
           skew = refl;
           given = λ j. count_set given_at c.servers k s.me s.given t (h.places.numbered k s at) j;
           reaps = λ j. count_set reaps_at c.servers k s.me s.reaps t (h.places.numbered k s at) j;
@@ -292,7 +284,7 @@ module _ (k skew greatest : ℕ) (c : Cluster) (s : Server) (at : slice_get c.se
     more = c.journal ++ led_item by m ∷ []
 
     abbrev Fits : Effect → Type 0
-    Fits e = IsBare later e × IsOfFile later more e
+    Fits e = IsBare later e × IsOfFile more e
 
     old_fits : (x : Decided) → In x (decided_in c) → Fits x.effect
     old_fits x j =
@@ -315,23 +307,17 @@ module _ (k skew greatest : ℕ) (c : Cluster) (s : Server) (at : slice_get c.se
           subst (IsApart (RemoveNode f)) (sym q.1.1)
           (beside (q.0).effect f (view.1.all.stand q.0 q.1.0).decided (go_past.0 q.0 q.1.0 (RemoveNode f) among))))
 
-      file_is : (d.file ≡ f) × (d.kind ≡ File)
-      file_is = goes_file d.entry.op d.file f d.kind of_files (subst (In (RemoveNode f)) effects_are among)
-
-      kind_is : kind_of (node_of (get held f)) ≡ Some File
+      kind_is : kind_of (node_of (get held f)) ≡ Some d.kind
       kind_is =
-          ap (λ x. kind_of (node_of (get held x))) (sym file_is.0)
-          ∙ kind_there held by d (stands.right committed.stand) ∙ ap Some file_is.1
+          ap (λ x. kind_of (node_of (get held x))) (sym (goes_file d.entry.op d.file f (subst (In (RemoveNode f)) effects_are among)))
+          ∙ kind_there held by d (stands.right committed.stand)
 
       removed_fits : Fits (RemoveNode f)
       removed_fits =
           let bare = its_fits.1 f among in
           let node : node_of (get later f) ≡ get (nodes_of held) f = same_node ∙ sym (node_there held f) in (
             (ap children_of node ∙ bare.0, ap handles_of node ∙ bare.1),
-            (
-              made_more c.journal (led_item by m) f (ap is_some (view.0.all.kept.made f File kind_is)),
-              ap (λ o. is_dir (kind_of o)) same_node ∙ ap is_dir kind_is,
-            ),
+            made_more c.journal (led_item by m) f (ap is_some (view.0.all.kept.made f d.kind kind_is)),
           )
 
     new_fits : (e : Effect) → In e (going sends es) → Fits e
@@ -345,10 +331,10 @@ module _ (k skew greatest : ℕ) (c : Cluster) (s : Server) (at : slice_get c.se
 
     fits_then : (x : Decided) → In x (decided_in then)
         → IsBare (records_of_all then.servers (parcels_of then.in_flight)) x.effect
-        × IsOfFile (records_of_all then.servers (parcels_of then.in_flight)) then.journal x.effect
+        × IsOfFile then.journal x.effect
     fits_then x i =
-        subst (λ n. IsBare n x.effect × IsOfFile n then.journal x.effect) (sym records_then)
-        (subst (λ is. IsBare later x.effect × IsOfFile later (c.journal ++ is) x.effect) (sym item_is)
+        subst (λ n. IsBare n x.effect × IsOfFile then.journal x.effect) (sym records_then)
+        (subst (λ is. IsBare later x.effect × IsOfFile (c.journal ++ is) x.effect) (sym item_is)
         (elim (In-append x (decided_in c) (decided_for by (going sends es)) (subst (In x) decided_then i)) as (λ _. Fits x.effect) [
           | inl j ↦ old_fits x j
           | inr j ↦

@@ -56,7 +56,7 @@ use Rattle.fs_serial.proofs.WholeRuns.Views.{AreAlike, alike_holds, count_set}
 pub record StaysDecided (c : Cluster) (d : Decided) : Type 0 where
   pub put : IsPut c d
   pub bare : IsBare (records_of_all c.servers (parcels_of c.in_flight)) d.effect
-  pub file : IsOfFile (records_of_all c.servers (parcels_of c.in_flight)) c.journal d.effect
+  pub file : IsOfFile c.journal d.effect
   pub owed : due (ends_in c d.by).down ≡ [] → ⊥
 
 -- its guards are those of the parts that are told
@@ -186,6 +186,7 @@ module _ (k from skew greatest : ℕ) (c : Cluster) (s : Server) (at : slice_get
   alike = record {
     rows = rows_then;
     records = ap₂ (λ ds n. held_with (effects_in ds) n) decided_then records_then;
+    stored = records_then;
     skew = refl;
     given = λ j. count_set given_at c.servers k s.me s.given then (h.places.numbered k s at) j;
     reaps = λ j. count_set reaps_at c.servers k s.me s.reaps then (h.places.numbered k s at) j;
@@ -215,8 +216,7 @@ module _ (k from skew greatest : ℕ) (c : Cluster) (s : Server) (at : slice_get
       record {
         put = subst (λ n. IsPutIn (nodes_of n) d.effect) (sym unseen) (all_put skew greatest c h s s_in d (was_before d j));
         bare = subst (λ n. IsBare n d.effect) (sym records_then) q.bare;
-        file = subst (λ n. IsOfFile n after.journal d.effect) (sym records_then)
-            (subst (λ is. IsOfFile (records_after_all records (effects_in its)) is d.effect) (sym (append-nil c.journal)) q.file);
+        file = subst (λ is. IsOfFile is d.effect) (sym (append-nil c.journal)) q.file;
         owed = λ none. (applied_stands.1).owed d j (ap (λ (x : Ends). due x.down) (sym (ends_then d.by)) ∙ none);
       }
 

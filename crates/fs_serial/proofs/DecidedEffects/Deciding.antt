@@ -39,10 +39,6 @@ pub deciding_by : (servers : List Server) (f : InFlight) (d : Decided) → In d 
 deciding_by servers f d i = by_message f.message refl i
   where
     by_message : (m : PeerMsg) → f.message ≡ m → In d (decided_by servers m) → IsDeciding servers f d
-    by_message (peer.Parcel p) e j = absurd j
-    by_message (peer.Prepare p) e j = absurd j
-    by_message (peer.Vote p) e j = absurd j
-    by_message (peer.Done p) e j = absurd j
     by_message (peer.Decide m) e j =
         elim (ended_in servers m.txn) as (λ o. ended_in servers m.txn ≡ o → In d (decided_at o m.effects) → IsDeciding servers f d) [
           | None ↦ λ g k. absurd k
@@ -57,6 +53,7 @@ deciding_by servers f d i = by_message f.message refl i
                 effect = subst (λ y. In y m.effects) (sym (ap (λ (z : Decided). z.effect) q.1.1)) q.1.0;
               }
         ] refl j
+    by_message m e j = absurd j
 
 -- all that the message tells
 pub told_by : (servers : List Server) (f : InFlight) (d : Decided) (p : IsDeciding servers f d)

@@ -1,6 +1,6 @@
 -- Leases and identifiers that a server gives while decided effects are on their way.
 use Rattle.std.proofs.Common.{◌≡◌, ℕ, ◌+◌, ◌==◌, Bool, true, false, List, [], ◌∷◌, cond, length, refl, sym, ap, ◌∙◌, subst, ◌⊎◌, inl, inr}
-use Rattle.std.specs.Prelude.{Option, Some, None, option_map, is_some}
+use Rattle.std.specs.Prelude.{Option, Some, None, option_map}
 use Rattle.std.specs.Cmp.Lexicographic.{nat_list_cmp_total}
 use Rattle.std.specs.FinMap.{get, same_map}
 use Rattle.fs_ident.specs.Ident.{child, same}
@@ -21,17 +21,16 @@ use Rattle.fs_field.specs.declared.field.Field.TheVariants.{Life, Child, Names, 
 use Rattle.fs_field.specs.declared.lease_kind.LeaseKind.{LeaseKind}
 use Rattle.fs_field.specs.declared.row.Row.{Row}
 use Rattle.fs_field.specs.declared.value.Value.TheVariants as value
-use Rattle.fs_model.specs.Sound.{kind_of}
 use Rattle.fs_moderows.specs.Answer.{answer_other, answer_self}
 use Rattle.fs_msg.specs.declared.item.Item.{Item}
 use Rattle.fs_record.specs.Applied.{record_change, records_after}
-use Rattle.fs_record.specs.Fresh.{IsLeastFree, free_from, is_dir, is_directory, records_after_gift, with_next}
+use Rattle.fs_record.specs.Fresh.{IsLeastFree, free_from, records_after_gift, with_next}
 use Rattle.fs_record.specs.Records.{AreRecords, RecordMap, next_of, node_of, nodes_of}
 use Rattle.fs_record.specs.ValueOf.{handles_of, selves_in, selves_of, value_of}
 use Rattle.fs_record.specs.declared.record.Record.{Record}
 use Rattle.fs_record.proofs.Kept.{given_kept}
 use Rattle.fs_record.proofs.NodeMaps.{node_there}
-use Rattle.fs_record.proofs.NumbersRise.{effect_next, given_elsewhere, given_here, number_least}
+use Rattle.fs_record.proofs.NumbersRise.{given_elsewhere, given_here, number_least}
 use Rattle.fs_record.proofs.Undoing.{get_here}
 use Rattle.fs_rows.specs.Answer.{answer_by}
 use Rattle.fs_rows.proofs.Bearing.{not_on}
@@ -42,10 +41,14 @@ use Rattle.fs_txn.specs.Grants.{Decided, IsAllowed, IsLost, effects_in}
 use Rattle.fs_txn.specs.Guards.{HasLocked}
 use Rattle.fs_txn.proofs.GrantsTrue.{grant_true}
 use Rattle.fs_serial.specs.Decided.{AllDecidedStand, DecidedStands}
+use Rattle.fs_serial.specs.Fresh.{IsMade, NodesMade}
 use Rattle.fs_serial.specs.Gone.{IsOfGone}
 use Rattle.fs_serial.specs.Laws.{IsGift}
+use Rattle.fs_serial.specs.Serial.{AreSound}
 use Rattle.fs_serial.specs.Sight.{seen}
-use Rattle.fs_serial.proofs.Grants.GiftedRecords.{node_stays, nodes_stay}
+use Rattle.fs_serial.proofs.DecidedEffects.FewerDirectories.{fewer_held, goes_or_stays, none_held}
+use Rattle.fs_serial.proofs.Grants.GiftedRecords.{node_stays, nodes_stay, sound_still}
+use Rattle.fs_serial.proofs.Grants.GiftReserved.{directory_made}
 use Rattle.fs_serial.proofs.Grants.Leased.{In-put_still}
 use Rattle.fs_serial.proofs.DecidedEffects.Underway.{LocksStay, PlaceStays, are_decided, effect_of, either_file, going_same, gone_held, handles_held, kind_held, node_beside, place_same, stands_then}
 
@@ -132,17 +135,6 @@ allowed s by (Names d) kind promise ok = given_none _ _ promise ok
 allowed s by (Info f) kind promise ok = given_none _ _ promise ok
 allowed s by (Own f) kind promise ok = given_none _ _ promise ok
 
-some_here : (o : Option Record) → is_dir (kind_of (node_of o)) ≡ true → is_some o ≡ true
-some_here None h = absurd (cc)
-some_here (Some r) h = refl
-
-pub next_held : (m : RecordMap) (es : List Effect) (dir : List ℕ) → AreDecided es → (In (RemoveNode dir) es → ⊥) → is_directory m dir ≡ true → next_of (get (held_with es m) dir) ≡ next_of (get m dir)
-next_held m [] dir d stays is = refl
-next_held m (e ∷ es) dir d stays is =
-    let same : kind_of (node_of (get (records_after m e) dir)) ≡ kind_of (node_of (get m dir)) = kind_held m (e ∷ []) dir (λ x i. elim i as (λ _. IsDecided x) [ inl q ↦ d x (inl q) | inr z ↦ absurd z ]) (λ i. elim i as (λ _. ⊥) [ inl q ↦ stays (inl q) | inr z ↦ z ]) in
-    let there : is_directory (records_after m e) dir ≡ true = ap is_dir same ∙ is in
-    next_held (records_after m e) es dir (λ x i. d x (inr i)) (λ i. stays (inr i)) there ∙ effect_next m e dir (some_here (get (records_after m e) dir) there)
-
 module _ (ds : List Decided) (s : Server) (journal : List Item) (all : AllDecidedStand ds s journal) where
   abbrev es : List Effect
   es = effects_in ds
@@ -188,7 +180,7 @@ module _ (ds : List Decided) (s : Server) (journal : List Item) (all : AllDecide
   lost_gone (Info f) l =
       let i : In (RemoveNode f) es = subst (λ e. In e es) l.1.1 (In-mapped effect_of l.0 ds l.1.0) in
       let q = going_of f i in
-      ((q.1.1.file).0, gone_held s.records es f all_decided i)
+      (q.1.1.file, gone_held s.records es f all_decided i)
   lost_gone (Life f) l = l
   lost_gone (Child d n) l = l
   lost_gone (Names d) l = l
@@ -221,20 +213,34 @@ module _ (ds : List Decided) (s : Server) (journal : List Item) (all : AllDecide
     least : IsLeastFree (next_of (get s.records dir)) (borne_numbers dir s.rows) k
     least = number_least s.records dir (borne_numbers dir s.rows) k gift.1
 
-    dir_stays : In (RemoveNode dir) es → ⊥
-    dir_stays i =
-        let q = going_of dir i in
-        let wrong : false ≡ true = sym (q.1.1.file).1 ∙ gift.0 in
-        absurd (cc)
-
     child_stays : In (RemoveNode (child dir k)) es → ⊥
     child_stays i =
         let q = going_of (child dir k) i in
         let g : HasLocked s.rows q.0.by (Life (child dir k)) _ = ((q.1.1.guarded).1).0 in
         not_on dir k s.rows least.free g.row g.stands (ap file_of g.field)
 
-    pub gift_seen : IsGift dir k there
-    gift_seen = (ap is_dir (kind_held s.records es dir all_decided dir_stays) ∙ gift.0, ap (λ n. cond (length dir == 32) None (free_from n (borne_numbers dir s.rows))) (next_held s.records es dir all_decided dir_stays gift.0) ∙ gift.1)
+    -- the directory goes, or it gives the same in what all hold together
+    gift_seen : In (RemoveNode dir) es ⊎ IsGift dir k there
+    gift_seen = elim (goes_or_stays s.records es dir all_decided gift.0) as (λ _. In (RemoveNode dir) es ⊎ IsGift dir k there) [
+      | inl i ↦ inl i
+      | inr is ↦
+          let next = (fewer_held s.records es all_decided dir is).1 in
+          inr (is, ap (λ n. cond (length dir == 32) None (free_from n (borne_numbers dir s.rows))) next ∙ gift.1)
+    ]
+
+    -- it was made
+    pub giver_made : NodesMade there.records journal → IsMade journal dir
+    giver_made made = elim gift_seen as (λ _. IsMade journal dir) [
+      | inl i ↦ (going_of dir i).1.1.file
+      | inr there_too ↦ directory_made there.records journal dir made there_too.0
+    ]
+
+    -- what all hold together stays sound: where the directory goes, nothing in it changes
+    pub sound_gifted : AreSound there.records → AreSound (records_after_gift there.records dir (Some k))
+    sound_gifted sound = elim gift_seen as (λ _. AreSound (records_after_gift there.records dir (Some k))) [
+      | inl i ↦ subst (λ (o : Option Record). AreSound (with_next there.records dir (k + 1) o)) (sym (none_held s.records es dir all_decided i)) sound
+      | inr there_too ↦ sound_still there.records dir k (borne_numbers dir s.rows) there_too.1 sound
+    ]
 
     -- the file to come does not live, in both
     pub life_alike : (by : Session) → value_of there.records by (Life (child dir k)) ≡ value_of s.records by (Life (child dir k))

@@ -21,7 +21,6 @@ use Rattle.fs_model.specs.Step.{children_of}
 use Rattle.fs_model.specs.declared.node.Node.{Node}
 use Rattle.fs_msg.specs.declared.item.Item.{Item}
 use Rattle.fs_record.specs.Applied.{node_change, record_change, records_after, records_after_all}
-use Rattle.fs_record.specs.Fresh.{is_dir}
 use Rattle.fs_record.specs.Records.{RecordMap, node_of, nodes_of}
 use Rattle.fs_record.specs.ValueOf.{handles_of}
 use Rattle.fs_record.specs.declared.record.Record.{Record}
@@ -108,14 +107,14 @@ bare_then m n (AddHandle f a x c) stays b = tt
 bare_then m n (RemoveHandle f a x) stays b = tt
 bare_then m n (SetInfo f a x) stays b = tt
 
-file_then : (m n : RecordMap) (journal more : List Item) (e : Effect) → GoingStays m n e → ((id : List ℕ) → IsMade journal id → IsMade more id) → IsOfFile m journal e → IsOfFile n more e
-file_then m n journal more (RemoveNode file) stays grows b = (grows file b.0, ap (λ o. is_dir (kind_of o)) stays ∙ b.1)
-file_then m n journal more (SetChild d x to) stays grows b = tt
-file_then m n journal more (SetParent f d x) stays grows b = tt
-file_then m n journal more (NewNode f k d x) stays grows b = tt
-file_then m n journal more (AddHandle f a x c) stays grows b = tt
-file_then m n journal more (RemoveHandle f a x) stays grows b = tt
-file_then m n journal more (SetInfo f a x) stays grows b = tt
+file_then : (journal more : List Item) (e : Effect) → ((id : List ℕ) → IsMade journal id → IsMade more id) → IsOfFile journal e → IsOfFile more e
+file_then journal more (RemoveNode file) grows b = grows file b
+file_then journal more (SetChild d x to) grows b = tt
+file_then journal more (SetParent f d x) grows b = tt
+file_then journal more (NewNode f k d x) grows b = tt
+file_then journal more (AddHandle f a x c) grows b = tt
+file_then journal more (RemoveHandle f a x) grows b = tt
+file_then journal more (SetInfo f a x) grows b = tt
 
 pub stands_then : (rows new : List Row) (m n : RecordMap) (held then : NodeMap) (journal more : List Item) (d : Decided) → LocksStay d.by rows new → PlaceStays held then d.effect → GoingStays m n d.effect → ((id : List ℕ) → IsMade journal id → IsMade more id)
     → DecidedStands rows m held journal d → DecidedStands new n then more d
@@ -123,7 +122,7 @@ stands_then rows new m n held then journal more d stay place going grows s = rec
   decided = s.decided;
   guarded = guarded_then rows new held then d.by d.effect stay place s.guarded;
   bare = bare_then m n d.effect going s.bare;
-  file = file_then m n journal more d.effect going grows s.file;
+  file = file_then journal more d.effect grows s.file;
 }
 
 pub place_same : (held : NodeMap) (e : Effect) → PlaceStays held held e

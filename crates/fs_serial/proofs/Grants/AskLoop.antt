@@ -22,7 +22,7 @@ use Rattle.fs_txn.specs.Grants.{Decided}
 use Rattle.fs_serial.specs.Decided.{AllDecidedStand}
 use Rattle.fs_serial.specs.Parts.{with_client}
 use Rattle.fs_serial.specs.Settled.{Settled, granted, with_leases}
-use Rattle.fs_serial.specs.Sight.{Counts, seen, sight_of}
+use Rattle.fs_serial.specs.Sight.{Counts, seen, sight_with}
 use Rattle.fs_serial.specs.World.{Ends, GoesOn}
 use Rattle.fs_serial.proofs.OtherSessions.ClientChanges.{goes_again}
 use Rattle.fs_serial.proofs.Grants.GrantItem.{item_granted}
@@ -44,7 +44,7 @@ GrantsHaveRows rows grants = (g : Grant) → In g grants → (r : Row) × In r r
 module _ (o : Counts) (skew greatest : ℕ) (journal : List Item) (replied : Session → List Item) (ends : Session → Ends) (base : Session → Settled) (by : Session) (d : Settled) (ds : List Decided) (others : (x : Decided) → In x ds → (x.by.0 == by.0) ≡ false) where
   -- what holds after some of the items
   pub record IsAsking (s : Server) (grants : List Grant) : Type 0 where
-    pub goes : GoesOn skew greatest (sight_of o (seen ds s) journal) replied ends (with_client by (given_so_far grants d) base)
+    pub goes : GoesOn skew greatest (sight_with o ds s journal) replied ends (with_client by (given_so_far grants d) base)
     pub rows : GrantsHaveRows s.rows grants
     pub decided : AllDecidedStand ds s journal
 
@@ -55,9 +55,9 @@ module _ (o : Counts) (skew greatest : ℕ) (journal : List Item) (replied : Ses
       let row = given_row (next_number s) by field kind (end_of s) promise in
       let g = grant_of by field kind s in
       record {
-        goes = subst (λ (x : Settled). GoesOn skew greatest (sight_of o (seen ds t) journal) replied ends (with_client by x base)) (given_more grants g d)
-            (goes_again skew greatest (sight_of o (seen ds t) journal) replied ends base by (given_so_far grants d) (with_leases (granted None g ∷ []))
-            (item_granted o by field asked promise (seen ds s) journal (value_of s.records by field) (told_right ds s journal h.decided by field kind promise others ok) skew greatest replied ends (with_client by (given_so_far grants d) base) (answers_alike ds s journal h.decided by field kind ∙ ok) h.goes));
+        goes = subst (λ (x : Settled). GoesOn skew greatest (sight_with o ds t journal) replied ends (with_client by x base)) (given_more grants g d)
+            (goes_again skew greatest (sight_with o ds t journal) replied ends base by (given_so_far grants d) (with_leases (granted None g ∷ []))
+            (item_granted o by field asked promise (seen ds s) journal s.records (value_of s.records by field) (told_right ds s journal h.decided by field kind promise others ok) skew greatest replied ends (with_client by (given_so_far grants d) base) (answers_alike ds s journal h.decided by field kind ∙ ok) h.goes));
         decided = stand_leased ds s journal h.decided by field kind promise;
         rows = λ x i. elim (In-append x grants (g ∷ []) i) as (λ _. (r : Row) × In r t.rows × (r.field ≡ x.field)) [
           | inl j ↦ let r = h.rows x j in (r.0, In-put_still (λ y. no_before row.no y.no) r.0 row s.rows r.1, r.2)

@@ -17,7 +17,8 @@ use Rattle.fs_msg.specs.declared.answer.Answer.TheVariants.{Granted}
 use Rattle.fs_msg.specs.declared.end.End.{End}
 use Rattle.fs_msg.specs.declared.end.End.TheVariants as end
 use Rattle.fs_msg.specs.declared.item.Item.{Item}
-use Rattle.fs_record.specs.Fresh.{fresh_number, is_directory}
+use Rattle.fs_record.specs.Fresh.{fresh_number, is_directory, records_after_gift}
+use Rattle.fs_record.specs.Records.{RecordMap}
 use Rattle.fs_server.specs.Asks.{Asking, ask_from, ask_fresh, asked_in, fresh_for, fresh_in, fresh_of, grant_of, kind_for, with_fresh, with_lease}
 use Rattle.fs_server.specs.Server.{is_mine, moved}
 use Rattle.fs_server.specs.declared.state.Server.{Server}
@@ -32,23 +33,23 @@ use Rattle.fs_serial.specs.Decided.{AllDecidedStand}
 use Rattle.fs_serial.specs.Laws.{IsGift, with_given}
 use Rattle.fs_serial.specs.Parts.{with_client}
 use Rattle.fs_serial.specs.Settled.{Lease, Settled, granted, lease_in, lease_with, told, with_leases}
-use Rattle.fs_serial.specs.Sight.{Counts, Sight, seen, sight_of, IsGiven}
+use Rattle.fs_serial.specs.Sight.{Counts, Sight, seen, sight_beside, sight_with, IsGiven}
 use Rattle.fs_serial.specs.World.{Ends, GoesOn}
 use Rattle.fs_serial.proofs.OtherSessions.ClientChanges.{client_same, goes_again}
 use Rattle.fs_serial.proofs.Grants.AskFits.{GrantsUpTo, IsGivenFor, KeptUpTo, given_for, new_number, value_is}
 use Rattle.fs_serial.proofs.Grants.AskLoop.{IsAsking, asked_still, given_so_far}
 use Rattle.fs_serial.proofs.Lists.Children.{parent_child}
 use Rattle.fs_serial.proofs.Lists.Counting.{count_here, given_by}
-use Rattle.fs_serial.proofs.Grants.Gift.{gift_goes, told_with}
+use Rattle.fs_serial.proofs.Grants.Gift.{gift_goes, number_free, told_with}
 use Rattle.fs_serial.proofs.Grants.GrantItem.{with_value}
-use Rattle.fs_serial.proofs.DecidedEffects.GrantsPast.{gift_seen, gifted_alike, life_alike, stand_gifted}
+use Rattle.fs_serial.proofs.DecidedEffects.GrantsPast.{gifted_alike, giver_made, life_alike, sound_gifted, stand_gifted}
 use Rattle.fs_serial.proofs.Replies.Knowing.{In-filter_map}
 use Rattle.fs_serial.proofs.Grants.Leased.{In-put_still}
 use Rattle.fs_serial.proofs.Grants.OneLease.{same_field_self}
 
 -- each lease that a client has, one that goes back too, has a number that was given
-pub kept_given : (o : Counts) (skew greatest : ℕ) (s : Server) (journal : List Item) (replied : Session → List Item) (ends : Session → Ends) (clients : Session → Settled) (by : Session) → GoesOn skew greatest (sight_of o s journal) replied ends clients → (k : ViewLease) → In k (ends by).client.view.leases → IsGiven (given_by o s) (number_of k.standing)
-kept_given o skew greatest s journal replied ends clients by h k i = at_standing k.standing refl
+pub kept_given : (o : Counts) (skew greatest : ℕ) (s : Server) (journal : List Item) (replied : Session → List Item) (ends : Session → Ends) (clients : Session → Settled) (by : Session) → (stored : RecordMap) → GoesOn skew greatest (sight_beside stored o s journal) replied ends clients → (k : ViewLease) → In k (ends by).client.view.leases → IsGiven (given_by o s) (number_of k.standing)
+kept_given o skew greatest s journal replied ends clients by stored h k i = at_standing k.standing refl
   where
     lease_given : (l : Lease) → lease_in k ≡ Some l → IsGiven (given_by o s) l.no
     lease_given l e =
@@ -67,13 +68,13 @@ kept_up_to o s kept given k i at =
     let g : (number_of k.standing).count ≤ given_by o s s.me = subst (λ n. (number_of k.standing).count ≤ given_by o s n) at (given k i) in
     omega arith
 
-module _ (o : Counts) (skew greatest : ℕ) (journal : List Item) (replied : Session → List Item) (ends : Session → Ends) (base : Session → Settled) (by : Session) (items : List (Field × LeaseKind)) (dir : Option (List ℕ)) (s : Server) (ds : List Decided) (others : (x : Decided) → In x ds → (x.by.0 == by.0) ≡ false) (underway : AllDecidedStand ds s journal) (h : GoesOn skew greatest (sight_of o (seen ds s) journal) replied ends base) (kinds : (x : Field × LeaseKind) → In x items → kind_for x.0 x.1 ≡ x.1) where
+module _ (o : Counts) (skew greatest : ℕ) (journal : List Item) (replied : Session → List Item) (ends : Session → Ends) (base : Session → Settled) (by : Session) (items : List (Field × LeaseKind)) (dir : Option (List ℕ)) (s : Server) (ds : List Decided) (others : (x : Decided) → In x ds → (x.by.0 == by.0) ≡ false) (underway : AllDecidedStand ds s journal) (h : GoesOn skew greatest (sight_with o ds s journal) replied ends base) (kinds : (x : Field × LeaseKind) → In x items → kind_for x.0 x.1 ≡ x.1) where
   abbrev kept : List ViewLease
   kept = (ends by).client.view.leases
 
   -- the question is answered
   pub record IsAnswer (a : Asking) : Type 0 where
-    pub goes : GoesOn skew greatest (sight_of o (seen ds a.server) journal) replied ends (with_client by (told by (Granted a.grants a.fresh a.end) (base by)) base)
+    pub goes : GoesOn skew greatest (sight_with o ds a.server journal) replied ends (with_client by (told by (Granted a.grants a.fresh a.end) (base by)) base)
     pub decided : AllDecidedStand ds a.server journal
     pub fits : (fresh_fits dir a.fresh && grants_fit items a.fresh kept a.grants) ≡ true
 
@@ -85,18 +86,18 @@ module _ (o : Counts) (skew greatest : ℕ) (journal : List Item) (replied : Ses
 
   asking : IsAsking o skew greatest journal replied ends base by (base by) ds others a.server a.grants
   asking = asked_still o skew greatest journal replied ends base by (base by) ds others items s [] (record {
-    goes = subst (λ c. GoesOn skew greatest (sight_of o (seen ds s) journal) replied ends c) (sym (client_same by base) ∙ ap (λ d. with_client by d base) none_so_far) h;
+    goes = subst (λ c. GoesOn skew greatest (sight_with o ds s journal) replied ends c) (sym (client_same by base) ∙ ap (λ d. with_client by d base) none_so_far) h;
     rows = λ g i. absurd i;
     decided = underway;
   })
 
   fitting : IsGivenFor by kept items [] s.me s.given a
-  fitting = given_for by kept items s [] kinds (kept_up_to o s kept (kept_given o skew greatest (seen ds s) journal replied ends base by h)) (λ g i. absurd i)
+  fitting = given_for by kept items s [] kinds (kept_up_to o s kept (kept_given o skew greatest (seen ds s) journal replied ends base by s.records h)) (λ g i. absurd i)
 
   -- without an identifier
   bare : (e : End) → IsAnswer (record a { end = e })
   bare e = record {
-    goes = subst (λ fresh. GoesOn skew greatest (sight_of o (seen ds a.server) journal) replied ends (with_client by (with_leases (map (granted fresh) a.grants) (base by)) base)) (sym fitting.none) asking.goes;
+    goes = subst (λ fresh. GoesOn skew greatest (sight_with o ds a.server journal) replied ends (with_client by (with_leases (map (granted fresh) a.grants) (base by)) base)) (sym fitting.none) asking.goes;
     decided = asking.decided;
     fits = subst (λ fresh. (fresh_fits dir fresh && grants_fit items fresh kept a.grants) ≡ true) (sym fitting.none) (ap (grants_fit items None kept) fitting.split ∙ fitting.some);
   }
@@ -104,23 +105,24 @@ module _ (o : Counts) (skew greatest : ℕ) (journal : List Item) (replied : Ses
   -- with one
   given : (d : List ℕ) (k : ℕ) → dir ≡ Some d → a.end ≡ end.All → IsGift d k a.server → IsAnswer (with_fresh by d k a)
   given d k asked all gift =
-      let t : Sight = sight_of o (seen ds (with_fresh by d k a).server) journal in
+      let t : Sight = sight_with o ds (with_fresh by d k a).server journal in
       let there : Asking = record a { server = seen ds a.server } in
       let c = given_so_far a.grants (base by) in
       let g = grant_of by (Life (child d k)) Exclusive a.server in
       let up = fitting.rises in
       let then = with_lease by (Life (child d k)) Exclusive None a.server in
       let goes_there : GoesOn skew greatest t replied ends (with_client by (with_given by d k there.server (with_client by c base by)) (with_client by c base)) =
-      subst (λ m. GoesOn skew greatest (sight_of o (record then { records = m }) journal) replied ends (with_client by (with_given by d k there.server (with_client by c base by)) (with_client by c base)))
+      subst (λ m. GoesOn skew greatest (sight_beside (records_after_gift a.server.records d (Some k)) o (record then { records = m }) journal) replied ends (with_client by (with_given by d k there.server (with_client by c base by)) (with_client by c base)))
       (gifted_alike ds a.server journal asking.decided d k gift)
-      (gift_goes o skew greatest there journal replied ends (with_client by c base) by d k (gift_seen ds a.server journal asking.decided d k gift) asking.goes) in
+      (gift_goes o by d k there journal a.server.records gift.0 gift.1 (giver_made ds a.server journal asking.decided d k gift asking.goes.all.kept.made)
+      (sound_gifted ds a.server journal asking.decided d k gift) skew greatest replied (with_client by c base) ends asking.goes) in
       let given_alike : with_given by d k there.server c ≡ with_given by d k a.server c =
       ap (λ v. with_leases (granted (Some (child d k)) (with_value v g) ∷ []) c) (life_alike ds a.server journal asking.decided d k gift by) in
       let goes = goes_again skew greatest t replied ends base by c (with_given by d k there.server) goes_there in
       let of_item = joined (same_field (Life (child d k)) (Life (child d k)) && true) (is_value_of (Life (child d k)) g.value) (joined _ _ (same_field_self (Life (child d k))) refl) (value_is by a.server.records (Life (child d k))) in
-      let new = new_number kept fitting.new s.me a.server.given g fitting.here (λ x i at. let q = kept_up_to o s kept (kept_given o skew greatest (seen ds s) journal replied ends base by h) x i at in omega arith) (subst (GrantsUpTo a.server.given) fitting.split fitting.numbers) (omega arith) in
+      let new = new_number kept fitting.new s.me a.server.given g fitting.here (λ x i at. let q = kept_up_to o s kept (kept_given o skew greatest (seen ds s) journal replied ends base by s.records h) x i at in omega arith) (subst (GrantsUpTo a.server.given) fitting.split fitting.numbers) (omega arith) in
       record {
-        goes = subst (λ (x : Settled). GoesOn skew greatest t replied ends (with_client by x base)) (given_alike ∙ sym (told_with o by d k a journal gift.0 gift.1 (base by) end.All asking.rows)) goes;
+        goes = subst (λ (x : Settled). GoesOn skew greatest t replied ends (with_client by x base)) (given_alike ∙ sym (told_with o by d k a journal a.server.records (number_free d k a.server gift) (base by) end.All asking.rows)) goes;
         decided = let q = stand_gifted ds a.server journal asking.decided d k gift (with_fresh by d k a).server.rows (λ x r j own l. record { row = r; stands = In-put_still (λ x. no_before _ x.no) r _ a.server.rows j; session = refl; field = refl; kind = refl; lock = l }) in record { records = q.records; stand = q.stand };
         fits = joined _ _
             (ap (λ x. fresh_fits x (Some (child d k))) asked ∙ ap (is_parent d) (parent_child d k) ∙ same_self d)

@@ -53,12 +53,12 @@ reserved_then clients by l = each_session (λ x d. (n : Claim) (i : List ℕ) �
     ]
     own ByLog i q = inl q
 
-module _ (m : RecordMap) (journal : List Item) (dir : List ℕ) (k : ℕ) (here : is_directory m dir ≡ true) (low : next_of (get m dir) ≤ k) (nodes : NodesMade m journal) (before later : Reserved) (by : Session) (number : LeaseNo) (then : (x : Session) (n : Claim) (i : List ℕ) → later x n i → before x n i ⊎ IsTheGift by number (child dir k) x n i) (f : FreshReserved before m journal) where
+module _ (m : RecordMap) (journal : List Item) (dir : List ℕ) (k : ℕ) (here : is_directory m dir ≡ true) (low : next_of (get m dir) ≤ k) (made : IsMade journal dir) (before later : Reserved) (by : Session) (number : LeaseNo) (then : (x : Session) (n : Claim) (i : List ℕ) → later x n i → before x n i ⊎ IsTheGift by number (child dir k) x n i) (f : FreshReserved before m journal) where
   -- no reserved identifier is at, above or below the one that is given
   not_above : (x : Session) (n : Claim) (i : List ℕ) → before x n i → IsAtOrBelow i (child dir k) → ⊥
   not_above x n i r p = elim (above_child i dir k p) as (λ _. ⊥) [
     | inl e ↦ f.reserved_before dir k x n i here low r (subst (IsAtOrBelow (child dir k)) (sym e) (below_itself (child dir k)))
-    | inr q ↦ f.unmade x n i dir r (directory_made m journal dir nodes here) q
+    | inr q ↦ f.unmade x n i dir r made q
   ]
 
   not_below : (x : Session) (n : Claim) (i : List ℕ) → before x n i → IsAtOrBelow (child dir k) i → ⊥
@@ -100,7 +100,7 @@ module _ (m : RecordMap) (journal : List Item) (dir : List ℕ) (k : ℕ) (here 
         let n : next_of (get after d) ≡ k + 1 = ap (λ x. next_of (get after x)) q.0 ∙ next_here m dir k here in
         let p = q.1 in
         absurd (omega arith)
-    | inr q ↦ f.made_before d l dir h (was_free d l free) (directory_made m journal dir nodes here) q
+    | inr q ↦ f.made_before d l dir h (was_free d l free) made q
   ]
 
   pub reserved_still : FreshReserved later after journal

@@ -46,6 +46,7 @@ row_relocked skew greatest s clients f same =
         made = k.made;
       };
       records = refl;
+      stored = refl;
       journal = refl;
       relied = λ x. record {
         given = λ k. omega arith;

@@ -13,11 +13,10 @@ use Rattle.fs_field.specs.Table.{has_no, renewed_row, same_no}
 use Rattle.fs_field.proofs.Leases.{NoPlainConflict-filter, NoPlainConflict-map, renewed_same}
 use Rattle.fs_field.proofs.SameNo.{same_no_is}
 use Rattle.fs_msg.specs.declared.item.Item.{Item}
-use Rattle.fs_server.specs.declared.state.Server.{Server}
 use Rattle.fs_serial.specs.Exchange.{ReturnFits}
 use Rattle.fs_serial.specs.Parts.{AllHold}
 use Rattle.fs_serial.specs.Settled.{Lease, Settled}
-use Rattle.fs_serial.specs.Sight.{Counts, Sight, IsGiven, sight_of}
+use Rattle.fs_serial.specs.Sight.{Sight, IsGiven}
 use Rattle.fs_serial.proofs.OneServer.LeaseChanges.{RowsChange}
 use Rattle.fs_serial.proofs.Grants.Granting.{shapes_filtered, shapes_renewed}
 use Rattle.fs_serial.proofs.Grants.Promises.{promises_filtered, promises_renewed}
@@ -45,6 +44,7 @@ fewer_rows skew greatest s clients test stays = record {
   servers = λ h. record { apart = NoPlainConflict-filter test s.rows h.apart; promises = promises_filtered s.records test s.rows h.promises; serial = h.serial; reaped = h.reaped };
   kept = λ f. record { shaped = shapes_filtered test s.rows f.shaped; counted = λ r i. f.counted r (In-filter test r s.rows i); given = λ r i. f.given r (In-filter test r s.rows i); sound = f.sound; made = f.made };
   records = refl;
+  stored = refl;
   journal = refl;
   relied = λ x. record {
     given = λ k. omega arith;
@@ -63,9 +63,10 @@ ended_or skew greatest r true late over = refl
 ended_or skew greatest r false late over = let q : r.until + skew ≤ greatest = over refl in absurd (omega arith)
 
 -- rows that have ended at the greatest reading so far
-pub rows_lapse : (greatest : ℕ) (o : Counts) (s : Server) (journal : List Item) (clients : Session → Settled) (keep : Row → Bool) → ((r : Row) → In r s.rows → keep r ≡ false → r.until + s.skew ≤ greatest)
-    → RowsChange s.skew greatest (sight_of o s journal) (with_rows (filter keep s.rows) (sight_of o s journal)) clients
-rows_lapse greatest o s journal clients keep over = fewer_rows s.skew greatest (sight_of o s journal) clients keep (λ x l h r i e late. ended_or s.skew greatest r (keep r) late (over r i))
+pub rows_lapse : (skew greatest : ℕ) (s : Sight) (clients : Session → Settled) (keep : Row → Bool)
+    → ((r : Row) → In r s.rows → keep r ≡ false → r.until + skew ≤ greatest) → RowsChange skew greatest s (with_rows (filter keep s.rows) s) clients
+rows_lapse skew greatest s clients keep over =
+    fewer_rows skew greatest s clients keep (λ x l h r i e late. ended_or skew greatest r (keep r) late (over r i))
 
 not_same : (a b : LeaseNo) → a ≢ b → not (same_no a b) ≡ true
 not_same a b h =
@@ -113,6 +114,7 @@ row_renewed skew greatest s clients n until =
         made = f.made;
       };
       records = refl;
+      stored = refl;
       journal = refl;
       relied = λ x. record {
         given = λ k. omega arith;

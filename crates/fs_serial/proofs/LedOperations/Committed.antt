@@ -1,5 +1,5 @@
 -- A led operation commits: what others rely on, and all parts.
-use Rattle.std.proofs.Common.{◌≡◌, ℕ, ◌+◌, ◌<◌, ◌≤◌, ◌==◌, not, Bool, true, false, List, [], ◌∷◌, ◌++◌, ◌⊎◌, refl, sym, ap, ◌∙◌, subst, inl, inr, cond, append-nil, arith}
+use Rattle.std.proofs.Common.{◌≡◌, ℕ, ◌+◌, ◌<◌, ◌==◌, not, Bool, true, false, List, [], ◌∷◌, ◌++◌, ◌⊎◌, refl, sym, ap, ◌∙◌, subst, inl, inr, cond, append-nil, arith}
 use Rattle.std.specs.Prelude.{Option, Some, None, is_some}
 use Rattle.std.specs.FinMap.{get}
 use Rattle.std.specs.List.{list_any}
@@ -8,7 +8,6 @@ use Rattle.fs_ident.specs.In.{In}
 use Rattle.fs_ident.specs.Ident.{child, same}
 use Rattle.fs_ident.specs.declared.actor.Session.{Session}
 use Rattle.fs_ident.specs.declared.kind.Kind.{Kind}
-use Rattle.fs_ident.specs.declared.kind.Kind.TheVariants.{File, Dir}
 use Rattle.fs_ident.proofs.Same.{one_session}
 use Rattle.fs_ident.proofs.Standing.{In-map}
 use Rattle.fs_field.specs.Field.{file_of}
@@ -31,20 +30,18 @@ use Rattle.fs_moderows.proofs.Witnesses.{In_none}
 use Rattle.fs_msg.specs.Journal.{is_reap}
 use Rattle.fs_msg.specs.declared.entry.Entry.{Entry}
 use Rattle.fs_msg.specs.declared.item.Item.{Item}
-use Rattle.fs_record.specs.Fresh.{is_dir, is_directory}
 use Rattle.fs_record.specs.LedEffects.{led_effects, moves_or_removes}
-use Rattle.fs_record.specs.Records.{next_of, node_of, nodes_of}
+use Rattle.fs_record.specs.Records.{RecordMap, node_of, nodes_of}
 use Rattle.fs_record.specs.ValueOf.{selves_in, selves_of, value_at, value_of}
 use Rattle.fs_record.proofs.AllApplied.{after_all_kept}
 use Rattle.fs_record.proofs.LedStepping.{led_effects_lead}
-use Rattle.fs_record.specs.declared.record.Record.{Record}
 use Rattle.fs_server.specs.Ships.{item_of}
 use Rattle.fs_view.specs.ViewLease.{makes}
 use Rattle.fs_view.specs.Laws.{item_meets}
 use Rattle.fs_view.specs.LedLaws.{IsLed, IsOfNone}
 use Rattle.fs_view.specs.View.{value_after_all}
 use Rattle.fs_view.specs.Walk.{always, known_in, walk}
-use Rattle.fs_view.proofs.LedValues.{led_follows, led_handles, led_lives, led_next, led_stays}
+use Rattle.fs_view.proofs.LedValues.{led_follows, led_handles, led_lives, led_stays}
 use Rattle.fs_serial.specs.Commits.{CommitIsRelied, CommitKeepsParts, IsCommitted, effects_led, with_commit, with_led}
 use Rattle.fs_serial.specs.Fresh.{Claim, FreshReserved, IsMade, NodesMade, Reserved, made, made_by, or_else, reserved_by}
 use Rattle.fs_serial.specs.Gone.{IsOfGone}
@@ -59,13 +56,14 @@ use Rattle.fs_serial.specs.Settled.{Lease, Settled, lease_after}
 use Rattle.fs_serial.specs.Sight.{Sight}
 use Rattle.fs_serial.proofs.Admission.Admit.{stays_below}
 use Rattle.fs_serial.proofs.Admission.AdmitAll.{fewer_anew}
-use Rattle.fs_serial.proofs.Grants.Claims.{NoneAnew, Was, none_anew, one_still, was_there}
+use Rattle.fs_serial.proofs.Grants.Claims.{NoneAnew, Was, none_anew}
 use Rattle.fs_serial.proofs.Admission.AdmitOthers.{no_item_meets}
 use Rattle.fs_serial.proofs.Lists.Journals.{each_image, items-other, items-own, known_nodes, made-append, made_before, nodes_all, or_none, reaps-still, serial_push, session_itself}
 use Rattle.fs_serial.proofs.OtherSessions.Gone.{all_anew, gone_later, made_more}
 use Rattle.fs_serial.proofs.OtherSessions.Relied.{relied_fits, relied_holds}
 use Rattle.fs_serial.proofs.Replies.Reply.{number_more}
-use Rattle.fs_serial.proofs.OtherSessions.Together.{each_session}
+use Rattle.fs_serial.proofs.DecidedEffects.FewerDirectories.{FewerDirectories, MakeNone, fewer_then, reserved_later, reserved_there}
+use Rattle.fs_serial.proofs.OtherSessions.Together.{each_session, fewer_reserved}
 
 -- ## Deletes and renames
 
@@ -95,14 +93,11 @@ never_again : (o p : Option Node) → ((k : Kind) → kind_of p ≡ Some k → k
 never_again o None h e = refl
 never_again o (Some n) h e = let q : None ≡ Some n.kind = sym (ap kind_of e) ∙ h n.kind refl in absurd (cc)
 
-dir_is : (k : Option Kind) → is_dir k ≡ true → k ≡ Some Dir
-dir_is None h = absurd (cc)
-dir_is (Some File) h = absurd (cc)
-dir_is (Some Dir) h = refl
-
-some_record : (o : Option Record) (k : Kind) → kind_of (node_of o) ≡ Some k → is_some o ≡ true
-some_record None k h = absurd (cc)
-some_record (Some r) k h = refl
+-- its effects make no file
+pub led_births : (o : Op) (file : List ℕ) (r : Reply) → MakeNone (led_effects o file r)
+led_births (op.Delete dir name) file reply.Deleted id = refl
+led_births (op.Rename sdir sname ddir dname) file reply.Renamed id = refl
+led_births o file r id = refl
 
 -- ## The servers, and the others
 
@@ -195,19 +190,12 @@ module _ (skew greatest : ℕ) (s : Sight) (by : Session) (d : Settled) (e : Ent
     | inr p ↦ let none : is_some (made_by e.op e.reply id) ≡ false = ap is_some (makes_none e.op e.reply id c.moves) in absurd (cc)
   ]
 
-  was_dir : (dir : List ℕ) → is_directory after.records dir ≡ true → is_directory s.records dir ≡ true
-  was_dir dir h = ap is_dir (lives dir Dir (dir_is (kind_of (node_of (get after.records dir))) h))
-
-  was_next : (dir : List ℕ) (k : ℕ) → is_directory after.records dir ≡ true → next_of (get after.records dir) ≤ k → next_of (get s.records dir) ≤ k
-  was_next dir k h le = subst (λ n. n ≤ k) (led_next s.records by e.op file e.reply led dir (some_record (get after.records dir) Dir (dir_is (kind_of (node_of (get after.records dir))) h))) le
-
-  pub commit_reserved : (old new : Reserved) → ((x : Session) (n : Claim) (i : List ℕ) → new x n i → Was (old x) n i) → FreshReserved old s.records s.journal → FreshReserved new after.records after.journal
-  commit_reserved old new fewer f = record {
-    once = λ x y n k i j a b p. one_still old s.records s.journal f x y n k i j (fewer x n i a) (fewer y k j b) p;
-    unmade = λ x n i j a m p. let q = was_there (old x) n i (fewer x n i a) in f.unmade x q.0 i j q.1 (was_made j m) p;
-    made_before = λ dir k j h le m p. f.made_before dir k j (was_dir dir h) (was_next dir k h le) (was_made j m) p;
-    reserved_before = λ dir k x n j h le a p. let q = was_there (old x) n j (fewer x n j a) in f.reserved_before dir k x q.0 j (was_dir dir h) (was_next dir k h le) q.1 p;
-  }
+  -- whichever of its effects are applied where records are stored
+  pub commit_reserved : (old new : Reserved) (stored : RecordMap) → FewerDirectories s.stored stored → ((x : Session) (n : Claim) (i : List ℕ) → new x n i → Was (old x) n i)
+      → FreshReserved old s.stored s.journal → FreshReserved new stored after.journal
+  commit_reserved old new stored directories fewer f =
+      fewer_reserved old new stored after.journal fewer
+      (reserved_later old stored s.journal after.journal was_made (reserved_there old s.stored stored s.journal directories f))
 
   -- ## Its own session
 
@@ -295,14 +283,19 @@ module _ (skew greatest : ℕ) (s : Sight) (replied : Session → List Item) (cl
     | false ↦ λ t. relied_holds skew greatest x s committed (clients x) (rely x t) (h.fitting x) (all_anew skew greatest s replied clients h x) (replied x) (h.sessions x)
   ] refl
 
+  -- where some of its effects are applied, and the others are on their way
+  pub committed_reserved : (stored : RecordMap) → FewerDirectories s.stored stored → FreshReserved (reserved_by (with_client by now clients)) stored committed.journal
+  committed_reserved stored directories =
+      commit_reserved skew greatest s by (clients by) e file c h.servers h.kept (reserved_by clients) (reserved_by (with_client by now clients)) stored directories
+      (each_session (λ x (n : Settled). NoneAnew (clients x) n) by now clients (fewer_anew by (effects_led file e) (clients by) now refl (λ x i. i)) (λ x other. none_anew (clients x))) h.reserved
+
   pub all_committed : AllHold skew greatest committed (with_replies by more_replied replied) (with_client by now clients)
   all_committed = record {
     servers = commit_holds skew greatest s by (clients by) e file c h.servers h.kept;
     kept = commit_fits skew greatest s by (clients by) e file c h.servers h.kept;
     sessions = sessions;
     fitting = each_session (λ x n. SessionFits skew greatest committed x n) by now clients (own_fits skew greatest s by (clients by) e file c h.servers h.kept (h.fitting by)) (λ x other. relied_fits skew greatest x s committed (clients x) (rely x other) (h.fitting x));
-    reserved = commit_reserved skew greatest s by (clients by) e file c h.servers h.kept (reserved_by clients) (reserved_by (with_client by now clients))
-        (each_session (λ x (n : Settled). NoneAnew (clients x) n) by now clients (fewer_anew by (effects_led file e) (clients by) now refl (λ x i. i)) (λ x other. none_anew (clients x))) h.reserved;
+    reserved = committed_reserved committed.stored (fewer_then s.stored (effects_led file e) (led_births e.op file e.reply));
   }
 
 pub commit_keeps_parts : CommitKeepsParts

@@ -5,7 +5,7 @@ use Rattle.std.specs.Cmp.{nat_eq_equiv}
 use Rattle.fs_ident.specs.In.{In}
 use Rattle.fs_ident.specs.declared.actor.Session.{Session}
 use Rattle.fs_ident.proofs.Booleans.{joined}
-use Rattle.fs_ident.proofs.Standing.{In-append, In-filter, In-map, In-mapped}
+use Rattle.fs_ident.proofs.Standing.{In-append, In-filter, In-map, In-mapped, none_any}
 use Rattle.fs_field.specs.declared.effect.Effect.{Effect}
 use Rattle.fs_model.specs.declared.op.Op.{Op}
 use Rattle.fs_model.specs.declared.op.Op.TheVariants as op
@@ -42,13 +42,15 @@ use Rattle.fs_serial.specs.Fresh.{reserved_by}
 use Rattle.fs_serial.specs.Led.{IsLeadAnswer, LedFits, LedStands}
 use Rattle.fs_serial.specs.Parts.{SessionFits, SessionHolds, with_client, with_replies}
 use Rattle.fs_serial.specs.Settled.{Lease, Settled, lease_after, led_done, led_ended, led_freed, led_over, settled_now, told}
-use Rattle.fs_serial.specs.Sight.{Sight, seen, sight_of}
+use Rattle.fs_view.specs.ViewLease.{makes}
+use Rattle.fs_serial.specs.Sight.{Sight, seen, sight_beside}
 use Rattle.fs_serial.specs.World.{GoesOn, HasNumber, World, WorldHolds, settled_at, sight_in, with_answer, without_question}
 use Rattle.fs_serial.proofs.DecidedEffects.CommitPast.{commit_apart}
-use Rattle.fs_serial.proofs.LedOperations.Committed.{commit_keeps_parts}
+use Rattle.fs_serial.proofs.LedOperations.Committed.{commit_keeps_parts, committed_reserved, led_births}
 use Rattle.fs_serial.proofs.LedOperations.Committing.{led_reply}
 use Rattle.fs_serial.proofs.Lists.Counting.{given_by}
-use Rattle.fs_serial.proofs.OneServer.LeaseChanges.{carried_alike}
+use Rattle.fs_serial.proofs.OneServer.LeaseChanges.{carried_alike, goes_restored}
+use Rattle.fs_serial.proofs.DecidedEffects.FewerDirectories.{MakeNone, fewer_each, fewer_then}
 use Rattle.fs_serial.proofs.OtherSessions.Gone.{made_more}
 use Rattle.fs_serial.proofs.DecidedEffects.GrantsPast.{all_decided, gone_there}
 use Rattle.fs_serial.proofs.LedOperations.MovedItems.{moved_parts}
@@ -144,7 +146,7 @@ module _ (greatest : ℕ) (w : World) (by : Session) (m : ToLead) (up : (w.ends 
       fitting = each_session (λ x d. SessionFits s.skew greatest (sight_in w) x d) by (led_freed (base by)) base
           (let q = goes.all.fitting by in record { given = q.given; distinct = q.distinct; matching = q.matching; fresh = q.fresh; held = q.held; backed = q.backed; entries = q.entries; once = q.once; refused = q.refused; led = tt })
           (λ x other. goes.all.fitting x);
-      reserved = fewer_reserved (reserved_by base) (reserved_by (with_client by (led_freed (base by)) base)) (sight_in w).records (sight_in w).journal
+      reserved = fewer_reserved (reserved_by base) (reserved_by (with_client by (led_freed (base by)) base)) (sight_in w).stored (sight_in w).journal
           (each_session (λ x (d : Settled). NoneAnew (base x) d) by (led_freed (base by)) base (none_anew (base by)) (λ x other. none_anew (base x))) goes.all.reserved;
     };
     carried = carried_alike s.skew greatest (sight_in w) w.ends base by (led_freed (base by)) (λ l i. record { lease = l; held = i; number = refl }) (λ l i. record { lease = l; held = i; number = refl }) goes.carried;
@@ -224,17 +226,27 @@ module _ (greatest : ℕ) (w : World) (by : Session) (m : ToLead) (up : (w.ends 
         ∙ split_past s.records (effects_in w.decided) effects sends f.all.records (all_decided w.decided s w.journal f.all) split.decided
         (are_apart w.decided (staying sends effects) (λ d i e j. effects_past d i e (In-filter (λ x. not (sends x)) e effects j))) split.apart
 
+    -- none of them makes a file
+    births : (sends : Effect → Bool) → MakeNone (staying sends effects)
+    births sends = fewer_each (staying sends effects) (λ e i dir.
+        none_any (makes dir) effects (led_births l.entry.op l.file (reply_of l.entry.op) dir) e (In-filter (λ x. not (sends x)) e effects i))
+
     pub world_led : (sends : Effect → Bool) (txns : ℕ) → IsSplit sends (led_effects m.op m.file (reply_of m.op)) → WorldHolds greatest (after_commit sends txns by m w)
     world_led sends txns =
         let e = end.Done (reply_of l.entry.op) in
         let item : Item = led_item by (lead_of l) in
         let replied : Session → List Item = with_replies by (w.replied by ++ item ∷ []) w.replied in
-        let goes_there : GoesOn s.skew greatest (sight_of w.counts (record s { txns = txns; records = records_after_all there.records effects }) (w.journal ++ item ∷ [])) replied w.ends (with_client by (told by (Led e) (base by)) base) =
-        subst (λ d. GoesOn s.skew greatest (sight_of w.counts (record s { txns = txns; records = records_after_all there.records effects }) (w.journal ++ item ∷ [])) replied w.ends (with_client by d base)) (sym told_led)
-        (subst (λ r. let x : Item = record (item_of by l.entry) { reply = r } in GoesOn s.skew greatest (sight_of w.counts (record s { txns = txns; records = records_after_all there.records (led_effects l.entry.op l.file r) }) (w.journal ++ x ∷ [])) (with_replies by (w.replied by ++ x ∷ []) w.replied) w.ends (with_client by then base)) (sym same_reply) commit_goes) in
+        let stored : RecordMap = records_after_all s.records (staying sends effects) in
+        let commit_there : GoesOn s.skew greatest (record after { stored = stored }) told_then w.ends (with_client by then base) =
+        goes_restored s.skew greatest after stored told_then w.ends (with_client by then base)
+        (committed_reserved s.skew greatest now w.replied base by l.entry l.file goes.all committed stored (fewer_then s.records (staying sends effects) (births sends)))
+        commit_goes in
+        let goes_there : GoesOn s.skew greatest (sight_beside stored w.counts (record s { txns = txns; records = records_after_all there.records effects }) (w.journal ++ item ∷ [])) replied w.ends (with_client by (told by (Led e) (base by)) base) =
+        subst (λ d. GoesOn s.skew greatest (sight_beside stored w.counts (record s { txns = txns; records = records_after_all there.records effects }) (w.journal ++ item ∷ [])) replied w.ends (with_client by d base)) (sym told_led)
+        (subst (λ r. let x : Item = record (item_of by l.entry) { reply = r } in GoesOn s.skew greatest (sight_beside stored w.counts (record s { txns = txns; records = records_after_all there.records (led_effects l.entry.op l.file r) }) (w.journal ++ x ∷ [])) (with_replies by (w.replied by ++ x ∷ []) w.replied) w.ends (with_client by then base)) (sym same_reply) commit_there) in
         subst (λ (n : ToLead). IsSplit sends (led_effects n.op n.file (reply_of n.op)) → WorldHolds greatest (after_commit sends txns by n w)) (sym to_lead.told)
-        (λ split. world_answered greatest w (record s { txns = txns; records = records_after_all s.records (staying sends effects) }) (w.journal ++ item ∷ []) by (Lead m) (Led e) up h (w.decided ++ decided_for by (going sends effects)) replied refl h.clock (later_itself (given_by w.counts s) s.rows)
-        (subst (λ r. GoesOn s.skew greatest (sight_of w.counts (record s { txns = txns; records = r }) (w.journal ++ item ∷ [])) replied w.ends (with_client by (told by (Led e) (base by)) base)) (sym (one_step sends split)) goes_there)
+        (λ split. world_answered greatest w (record s { txns = txns; records = stored }) (w.journal ++ item ∷ []) by (Lead m) (Led e) up h (w.decided ++ decided_for by (going sends effects)) replied refl h.clock (later_itself (given_by w.counts s) s.rows)
+        (subst (λ r. GoesOn s.skew greatest (sight_beside stored w.counts (record s { txns = txns; records = r }) (w.journal ++ item ∷ [])) replied w.ends (with_client by (told by (Led e) (base by)) base)) (sym (one_step sends split)) goes_there)
         refl (end_fits_there e (can_end l.entry.op l.entry.reply led_stands.leads)) (λ ends x q. absurd (cc)))
 
     -- ## What is decided then
@@ -252,7 +264,7 @@ module _ (greatest : ℕ) (w : World) (by : Session) (m : ToLead) (up : (w.ends 
         (going_past s.records d.effect (staying sends effects) (λ e j. effects_past d i e (In-filter (λ x. not (sends x)) e effects j)))
         (made_more w.journal item_then) (f.all.stand d i)
 
-    -- what it sends stands where it is guarded, and what goes was made, is no directory, and has nothing in it
+    -- what it sends stands where it is guarded, and what goes was made, and has nothing in it
     pub commit_fits : (sends : Effect → Bool) (txns : ℕ) → IsSplit sends (led_effects m.op m.file (reply_of m.op)) → ((d : Decided) → In d (decided_for by (going sends (led_effects m.op m.file (reply_of m.op)))) → StandsIn (after_commit sends txns by m w) d) → DecidedFits (after_commit sends txns by m w)
     commit_fits sends txns =
         subst (λ (n : ToLead). IsSplit sends (led_effects n.op n.file (reply_of n.op)) → ((d : Decided) → In d (decided_for by (going sends (led_effects n.op n.file (reply_of n.op)))) → StandsIn (after_commit sends txns by n w) d) → DecidedFits (after_commit sends txns by n w)) (sym to_lead.told)

@@ -6,6 +6,7 @@ use Rattle.std.specs.FinMap.{get}
 use Rattle.std.proofs.lemmas.Bool.{not-true}
 use Rattle.fs_ident.specs.In.{In}
 use Rattle.fs_ident.specs.Ordered.{Keyed}
+use Rattle.fs_ident.specs.declared.actor.PathNo.{PathNo}
 use Rattle.fs_ident.specs.declared.kind.Kind.{Kind}
 use Rattle.fs_ident.proofs.Standing.{In-filter, In-got, In-append, In-front, In-behind}
 use Rattle.fs_field.specs.Field.{file_of}
@@ -15,7 +16,8 @@ use Rattle.fs_map.specs.Lists.{piece_of}
 use Rattle.fs_map.specs.Map.{gives, server_of}
 use Rattle.fs_map.proofs.Owned.{piece_piece, taken_map}
 use Rattle.fs_msg.specs.declared.item.Item.{Item}
-use Rattle.fs_parcel.specs.Parcel.{move_refusal}
+use Rattle.fs_parcel.specs.Parcel.{move_refusal, paths_out}
+use Rattle.fs_path.specs.Tables.{first_in}
 use Rattle.fs_parcel.specs.declared.error.MoveError.{MoveError}
 use Rattle.fs_parcel.proofs.Both.{passing}
 use Rattle.fs_parcel.proofs.Parting.{parcel_formed, parcel_of_given}
@@ -28,11 +30,10 @@ use Rattle.fs_record.proofs.Kept.{record_at}
 use Rattle.fs_record.proofs.Parting.{left_at}
 use Rattle.fs_record.proofs.Returning.{given_each}
 use Rattle.fs_rows.specs.Moving.{is_on_given, rows_left, locked_in}
-use Rattle.fs_server.specs.Moves.{hands_over, move_at, move_step, refusal_of, without_given}
-use Rattle.fs_server.specs.Server.{is_mine, only_noted}
+use Rattle.fs_server.specs.Moves.{hands_over, move_at, move_step, without_given}
+use Rattle.fs_server.specs.Server.{Stepped, is_mine}
 use Rattle.fs_server.specs.declared.event.ServerEvent.TheVariants.{Move}
 use Rattle.fs_server.specs.declared.state.Server.{Server}
-use Rattle.fs_msg.specs.declared.server_note.ServerNote.TheVariants as note
 use Rattle.fs_model.specs.Sound.{kind_of}
 use Rattle.fs_record.specs.Records.{AreRecords, RecordMap, node_of}
 use Rattle.fs_txn.specs.Decided.{held_with}
@@ -43,7 +44,7 @@ use Rattle.fs_serial.specs.Parts.{ServersFit}
 use Rattle.fs_serial.specs.Places.{IsHome, IsSent, OnePlace, PlacesHold, IsUnderway}
 use Rattle.fs_serial.specs.Refusals.{rows_in}
 use Rattle.fs_serial.specs.Runs.{held_by, records_in}
-use Rattle.fs_serial.specs.Seen.{with_all}
+use Rattle.fs_serial.specs.Seen.{HasNoPaths, with_all}
 use Rattle.fs_serial.specs.Sight.{Counts, sight_of}
 use Rattle.fs_serial.proofs.Lists.Counted.{total, total_append, total_set}
 use Rattle.fs_serial.proofs.Lists.Journals.{there_is}
@@ -54,11 +55,14 @@ use Rattle.fs_serial.proofs.Lists.Listed.{map_made, piece_made}
 use Rattle.fs_serial.proofs.Places.OnePlaces.{one_record}
 use Rattle.fs_serial.proofs.Moves.Parcels.{parcels-append}
 use Rattle.fs_serial.proofs.Moves.Parted.{IsInPlace, one_parted, record_parted, record_whole, row_parted, row_whole, times_same}
+use Rattle.fs_serial.proofs.Moves.PathSteps.{refusal_here, refused, refused_silent}
+use Rattle.fs_serial.proofs.Moves.QuietSteps.{quiet_places, quiet_same}
 use Rattle.fs_serial.proofs.Moves.Replaced.{replaced_places}
-use Rattle.fs_serial.proofs.Lists.SetAt.{In_kept, In_new, In_set, set_same}
+use Rattle.fs_serial.proofs.Lists.SetAt.{In_kept, In_new, In_set}
 use Rattle.fs_serial.proofs.Lists.Times.{all_once}
 use Rattle.std.proofs.lemmas.Option.{slice_get_within}
 use Rattle.fs_serial.proofs.Moves.Unlocked.{free_of, unlocked_below}
+use Rattle.fs_serial.proofs.Transactions.PlacesAfter.{AreWords, no_words}
 
 -- ## What is there then
 
@@ -156,15 +160,16 @@ record CanMove (s : Server) (prefix : List ℕ) (to : ℕ) : Type 0 where
   other : (to == s.me) ≡ false
   free : locked_in prefix s.map s.me s.rows ≡ None
 
-can_move : (s : Server) (prefix : List ℕ) (to : ℕ) → move_refusal s.records s.rows s.map s.me prefix to None ≡ None → CanMove s prefix to
-can_move s prefix to h =
+can_move : (s : Server) (prefix : List ℕ) (to : ℕ) (through : Option PathNo)
+    → move_refusal s.records s.rows s.map s.me prefix to through ≡ None → CanMove s prefix to
+can_move s prefix to through h =
     let a = yes (server_of s.map prefix == s.me) _ _ h in
     let b = yes (is_some (get s.records prefix)) _ _ a.1 in
     record {
-      mine = prefix_is_mine s.records s.rows s.map s.me prefix to None h;
+      mine = prefix_is_mine s.records s.rows s.map s.me prefix to through h;
       lives = b.0;
       other = no (to == s.me) _ _ b.1;
-      free = free_of (locked_in prefix s.map s.me s.rows) (then (to == s.me) _ _ b.1);
+      free = free_of (locked_in prefix s.map s.me s.rows) (paths_out through) (then (to == s.me) _ _ b.1);
     }
 
 -- ## At its place
@@ -277,42 +282,43 @@ fit_lives c s o f id kind e = ap (λ (k : Option Kind). is_some k) (f.made id ki
 
 -- everything is at its place
 pub leaving_places : (k : ℕ) (c : Cluster) (s : Server) (prefix : List ℕ) (to : ℕ) → slice_get c.servers k ≡ Some s → PlacesHold c
-    → (o : Counts) → ServersFit (sight_of o (with_all s c) c.journal) → to < length c.servers → move_refusal s.records s.rows s.map s.me prefix to None ≡ None
+    → (o : Counts) → ServersFit (sight_of o (with_all s c) c.journal) → to < length c.servers
+    → (through : Option PathNo) → move_refusal s.records s.rows s.map s.me prefix to through ≡ None
     → PlacesHold (after_step k (Move prefix to) (hands_over prefix to s) c)
-leaving_places k c s prefix to at h o f is may =
-    places_then k c s prefix to at h f.sound.records (fit_lives c s o f) (can_move s prefix to may) is
+leaving_places k c s prefix to at h o f is through may =
+    places_then k c s prefix to at h f.sound.records (fit_lives c s o f) (can_move s prefix to through may) is
 
 -- ## The step, whether it is refused or not
 
--- nothing changes where it is refused
-pub stays_cluster : (k : ℕ) (c : Cluster) (s : Server) (prefix : List ℕ) (to : ℕ) (why : MoveError) → slice_get c.servers k ≡ Some s
-    → after_step k (Move prefix to) (only_noted (note.Stays (refusal_of why)) s) c ≡ c
-stays_cluster k c s prefix to why at =
-    ap (λ (ss : List Server). let d : Cluster = record { servers = ss; in_flight = c.in_flight ++ []; journal = c.journal ++ []; replied = c.replied; lines = c.lines } in d) (set_same c.servers k s at)
-    ∙ ap (λ (fs : List InFlight). let d : Cluster = record { servers = c.servers; in_flight = fs; journal = c.journal ++ []; replied = c.replied; lines = c.lines } in d) (append-nil c.in_flight)
-    ∙ ap (λ (is : List Item). let d : Cluster = record { servers = c.servers; in_flight = c.in_flight; journal = is; replied = c.replied; lines = c.lines } in d) (append-nil c.journal)
-
-abbrev IsSameAfter : ℕ → List ℕ → ℕ → Server → Cluster → Option MoveError → Type 0
-IsSameAfter k prefix to s c e = (rows_in (after_step k (Move prefix to) (move_at e prefix to s) c) ≡ rows_in c) × (records_in (after_step k (Move prefix to) (move_at e prefix to s) c) ≡ records_in c)
+abbrev IsSameAfter : ℕ → List ℕ → ℕ → Cluster → Stepped → Type 0
+IsSameAfter k prefix to c x =
+    (rows_in (after_step k (Move prefix to) x c) ≡ rows_in c) × (records_in (after_step k (Move prefix to) x c) ≡ records_in c)
 
 pub move_same : (k : ℕ) (c : Cluster) (s : Server) (prefix : List ℕ) (to : ℕ) → slice_get c.servers k ≡ Some s → PlacesHold c
-    → (rows_in (after_step k (Move prefix to) (move_step prefix to s) c) ≡ rows_in c) × (records_in (after_step k (Move prefix to) (move_step prefix to s) c) ≡ records_in c)
-move_same k c s prefix to at h = go (move_refusal s.records s.rows s.map s.me prefix to None)
+    → (rows_in (after_step k (Move prefix to) (move_step prefix to s) c) ≡ rows_in c)
+    × (records_in (after_step k (Move prefix to) (move_step prefix to s) c) ≡ records_in c)
+move_same k c s prefix to at h = go (refusal_here prefix to s)
   where
-    go : (e : Option MoveError) → IsSameAfter k prefix to s c e
+    go : (e : Option MoveError) → IsSameAfter k prefix to c (move_at e prefix to s)
     go None = leaving_same k c s prefix to at h
-    go (Some why) = (ap rows_in (stays_cluster k c s prefix to why at), ap records_in (stays_cluster k c s prefix to why at))
+    go (Some why) = refused (IsSameAfter k prefix to c) s
+        (λ n ms paths asking given noted sent. quiet_same k c s at (Move prefix to) refl n ms paths asking given sent) why prefix to
 
+-- where it has no paths, it sends nothing if it is refused
 pub moved_places : (k : ℕ) (c : Cluster) (s : Server) (prefix : List ℕ) (to : ℕ) → slice_get c.servers k ≡ Some s → PlacesHold c
-    → AreRecords (records_in c) → LivesMade (records_in c) c.journal → to < length c.servers
+    → HasNoPaths s → AreRecords (records_in c) → LivesMade (records_in c) c.journal → to < length c.servers
     → PlacesHold (after_step k (Move prefix to) (move_step prefix to s) c)
-moved_places k c s prefix to at h records lives is = go (move_refusal s.records s.rows s.map s.me prefix to None) refl
+moved_places k c s prefix to at h pathless records lives is = go (refusal_here prefix to s) refl
   where
-    go : (e : Option MoveError) → move_refusal s.records s.rows s.map s.me prefix to None ≡ e → PlacesHold (after_step k (Move prefix to) (move_at e prefix to s) c)
-    go None m = places_then k c s prefix to at h records lives (can_move s prefix to m) is
-    go (Some why) m = subst PlacesHold (sym (stays_cluster k c s prefix to why at)) h
+    go : (e : Option MoveError) → refusal_here prefix to s ≡ e → PlacesHold (after_step k (Move prefix to) (move_at e prefix to s) c)
+    go None m = places_then k c s prefix to at h records lives (can_move s prefix to (first_in s.map s.me prefix s.paths) m) is
+    go (Some why) m =
+        refused (λ (x : Stepped). x.out.send ≡ [] → PlacesHold (after_step k (Move prefix to) x c)) s
+        (λ n ms paths asking given noted sent silent. quiet_places k c s at (Move prefix to) refl n ms paths asking given h (λ f i. i)
+        (subst (AreWords (length c.servers)) (sym silent) (no_words (length c.servers)))) why prefix to
+        (refused_silent why prefix to s pathless)
 
 pub move_places : (k : ℕ) (c : Cluster) (s : Server) (prefix : List ℕ) (to : ℕ) → slice_get c.servers k ≡ Some s → PlacesHold c
-    → (o : Counts) → ServersFit (sight_of o (with_all s c) c.journal) → to < length c.servers
+    → HasNoPaths s → (o : Counts) → ServersFit (sight_of o (with_all s c) c.journal) → to < length c.servers
     → PlacesHold (after_step k (Move prefix to) (move_step prefix to s) c)
-move_places k c s prefix to at h o f = moved_places k c s prefix to at h f.sound.records (fit_lives c s o f)
+move_places k c s prefix to at h pathless o f = moved_places k c s prefix to at h pathless f.sound.records (fit_lives c s o f)

@@ -7,6 +7,7 @@ use Rattle.fs_field.specs.Field.{file_of}
 use Rattle.fs_field.specs.declared.row.Row.{Row}
 use Rattle.fs_map.specs.Map.{Owners, is_given}
 use Rattle.fs_parcel.specs.Parcel.{busy_or}
+use Rattle.fs_parcel.specs.declared.error.MoveError.{MoveError}
 use Rattle.fs_rows.specs.Moving.{least_of, locked_in}
 
 -- neither is there where the lesser of both is none
@@ -26,6 +27,6 @@ unlocked_below prefix owners me (x ∷ xs) h r (inl e) given =
 unlocked_below prefix owners me (x ∷ xs) h r (inr i) given = unlocked_below prefix owners me xs (none_of_both _ _ h).1 r i given
 
 -- a move that is not refused is kept by none
-pub free_of : (o : Option TxnNo) → busy_or o None ≡ None → o ≡ None
-free_of None h = refl
-free_of (Some txn) h = absurd (cc)
+pub free_of : (o : Option TxnNo) (later : Option MoveError) → busy_or o later ≡ None → o ≡ None
+free_of None later h = refl
+free_of (Some txn) later h = absurd (cc h)

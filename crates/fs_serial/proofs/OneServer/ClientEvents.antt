@@ -17,7 +17,7 @@ use Rattle.fs_record.specs.Records.{nodes_of}
 use Rattle.fs_client.specs.Acts.{act_on, act_plan}
 use Rattle.fs_record.specs.declared.led_end.LedEnd.{LedEnd}
 use Rattle.fs_record.specs.declared.led_end.LedEnd.TheVariants as end
-use Rattle.fs_client.specs.Answers.{answer_plan, ended_plan, fits, hear, led_plan, strange, told}
+use Rattle.fs_client.specs.Answers.{answer_plan, ended_plan, fits, hear, led_plan, strange, fitting_plan}
 use Rattle.fs_client.specs.Client.{begun, changed, committed, with_hints}
 use Rattle.fs_client.specs.Turns.{ending, idle, release_some, renew_some, returned, ship_some, turn_free, turn_on}
 use Rattle.fs_client.specs.Led.{end_fits}
@@ -107,7 +107,7 @@ led_quiet : (by : Session) (c : Client) (led : Option TheLed) (e : LedEnd) → I
 led_quiet by c None e = record { now = refl; admits = refl; tells = refl }
 led_quiet by c (Some l) e = ended_quiet by c l e
 
-told_quiet : (by : Session) (c : Client) (a : Answer) → IsQuiet by c (told a c)
+told_quiet : (by : Session) (c : Client) (a : Answer) → IsQuiet by c (fitting_plan a c)
 told_quiet by c (Granted gs fresh e) = record { now = refl; admits = refl; tells = refl }
 told_quiet by c (Renewed ends e) = record { now = refl; admits = refl; tells = refl }
 told_quiet by c (Released count e) = record { now = refl; admits = refl; tells = refl }
@@ -131,7 +131,7 @@ led_known c None e fit = absurd (cc)
 led_known c (Some l) e fit = ended_known c l e
 
 -- what is told is noted
-told_known : (c : Client) (from : ℕ) (a : Answer) → fits from c.exchange a c ≡ true → (told a c).out.note ≢ note.Strange
+told_known : (c : Client) (from : ℕ) (a : Answer) → fits from c.exchange a c ≡ true → (fitting_plan a c).out.note ≢ note.Strange
 told_known c from (Granted gs fresh e) fit = λ h. cc
 told_known c from (Renewed ends e) fit = λ h. cc
 told_known c from (Released count e) fit = λ h. cc
@@ -140,7 +140,7 @@ told_known c from (Led e) fit = led_known c c.led e (led_end_fits from c.exchang
 told_known c from (Recall n) fit = λ h. cc
 
 pub hear_quiet : (by : Session) (c : Client) (from : ℕ) (a : Answer) → IsQuiet by c (hear from a c)
-hear_quiet by c from a = elim (fits from c.exchange a c) as (λ b. IsQuiet by c (cond b (told a c) (strange c))) [
+hear_quiet by c from a = elim (fits from c.exchange a c) as (λ b. IsQuiet by c (cond b (fitting_plan a c) (strange c))) [
   | true ↦ told_quiet by c a
   | false ↦ record { now = refl; admits = refl; tells = refl }
 ]
@@ -228,4 +228,4 @@ module _ (greatest now : ℕ) (w : World) (by : Session) (h : WorldHolds greates
       let fit = fits_first w.server.skew greatest (sight_in w) by (w.replied by) began (w.ends by).up rest from a can.1
       (subst (λ down. SessionStateHolds w.server.skew greatest (sight_in w) by (w.replied by) began
       (w.ends by).up down) can.0 session_began) in
-      subst (λ b. (cond b (told a began) (strange began)).out.note ≢ note.Strange) (sym fit) (told_known began from a fit)
+      subst (λ b. (cond b (fitting_plan a began) (strange began)).out.note ≢ note.Strange) (sym fit) (told_known began from a fit)

@@ -17,7 +17,7 @@ use Rattle.fs_serial.specs.Fresh.{FreshReserved, IsMade, reserved_by}
 use Rattle.fs_serial.specs.Numbers.{AreNumbered, all_items, items_by}
 use Rattle.fs_serial.specs.Parts.{ServersHold, ServersFit}
 use Rattle.fs_serial.specs.Settled.{settled_now}
-use Rattle.fs_serial.specs.Sight.{Sight, seen, sight_of}
+use Rattle.fs_serial.specs.Sight.{Sight, sight_with}
 use Rattle.fs_serial.specs.World.{Ends, World, WorldHolds, pushed, settled_at, sight_in, with_ends, with_told}
 use Rattle.fs_serial.proofs.LedOperations.LedKept.{each_led}
 use Rattle.fs_serial.proofs.ClientMessages.Carried.{GoesOnAs, exchange_still}
@@ -60,12 +60,12 @@ each_two P by told e replied ends own others x = elim (by.0 == x.0) as (λ b. (b
   | false ↦ λ q. others x q
 ] refl
 
-module _ (greatest : ℕ) (w : World) (by : Session) (journal : List Item) (told : Option Item) (e : Ends) (h : WorldHolds greatest w) (grows : (id : List ℕ) → IsMade w.journal id → IsMade journal id) (others : (x : Session) → (by.0 == x.0) ≡ false → items_by x journal ≡ items_by x w.journal) (holds : ServersHold (sight_of w.counts (seen w.decided w.server) journal)) (fits : ServersFit (sight_of w.counts (seen w.decided w.server) journal)) (reserved : FreshReserved (reserved_by (λ x. settled_at x (w.ends x))) (sight_in w).records journal) (moved : IsMoved w.server.skew greatest (sight_in w) (sight_of w.counts (seen w.decided w.server) journal) by (w.replied by) (w.ends by).client (w.ends by).down told e) where
+module _ (greatest : ℕ) (w : World) (by : Session) (journal : List Item) (told : Option Item) (e : Ends) (h : WorldHolds greatest w) (grows : (id : List ℕ) → IsMade w.journal id → IsMade journal id) (others : (x : Session) → (by.0 == x.0) ≡ false → items_by x journal ≡ items_by x w.journal) (holds : ServersHold (sight_with w.counts w.decided w.server journal)) (fits : ServersFit (sight_with w.counts w.decided w.server journal)) (reserved : FreshReserved (reserved_by (λ x. settled_at x (w.ends x))) (sight_in w).stored journal) (moved : IsMoved w.server.skew greatest (sight_in w) (sight_with w.counts w.decided w.server journal) by (w.replied by) (w.ends by).client (w.ends by).down told e) where
   abbrev ends : Session → Ends
   ends = with_ends by e w.ends
 
-  states : (x : Session) → SessionStateHolds w.server.skew greatest (sight_of w.counts (seen w.decided w.server) journal) x (with_told by told w.replied x) (ends x).client (ends x).up (ends x).down
-  states = each_two (λ x is n. SessionStateHolds w.server.skew greatest (sight_of w.counts (seen w.decided w.server) journal) x is n.client n.up n.down) by told e w.replied w.ends moved.state
+  states : (x : Session) → SessionStateHolds w.server.skew greatest (sight_with w.counts w.decided w.server journal) x (with_told by told w.replied x) (ends x).client (ends x).up (ends x).down
+  states = each_two (λ x is n. SessionStateHolds w.server.skew greatest (sight_with w.counts w.decided w.server journal) x is n.client n.up n.down) by told e w.replied w.ends moved.state
       (λ x q. session_beside w.server.skew greatest (sight_in w) x (w.replied x) (w.ends x).client (w.ends x).up (w.ends x).down journal grows (others x q) (session_of greatest w x h))
 
   still_reserved : (x : Session) → NoneAnew (settled_at x (w.ends x)) (settled_at x (ends x))
@@ -80,7 +80,7 @@ module _ (greatest : ℕ) (w : World) (by : Session) (journal : List Item) (told
       kept = fits;
       sessions = λ x. (states x).holds;
       fitting = λ x. (states x).fits;
-      reserved = fewer_reserved (reserved_by (λ x. settled_at x (w.ends x))) (reserved_by (λ x. settled_at x (ends x))) (sight_in w).records journal still_reserved reserved;
+      reserved = fewer_reserved (reserved_by (λ x. settled_at x (w.ends x))) (reserved_by (λ x. settled_at x (ends x))) (sight_in w).stored journal still_reserved reserved;
     };
     clock = h.clock;
     clients = λ x. (states x).client;

@@ -1,5 +1,5 @@
 -- What a step of the server keeps while its event goes on.
-use Rattle.std.proofs.Common.{◌≡◌, ℕ, true, false, List, [], ◌∷◌, sym, ap, ◌∙◌, subst, inl, inr}
+use Rattle.std.proofs.Common.{◌≡◌, ℕ, true, false, List, [], ◌∷◌, refl, sym, ap, ◌∙◌, subst, inl, inr, arith}
 use Rattle.std.specs.Prelude.{◌≢◌, is_some}
 use Rattle.fs_ident.specs.In.{In}
 use Rattle.fs_ident.specs.declared.actor.Session.{Session}
@@ -28,6 +28,7 @@ pub record RowsChange (skew greatest : ℕ) (s t : Sight) (clients : Session →
   pub servers : ServersHold s → ServersHold t
   pub kept : ServersFit s → ServersFit t
   pub records : t.records ≡ s.records
+  pub stored : t.stored ≡ s.stored
   pub journal : t.journal ≡ s.journal
   pub relied : (x : Session) → ReliesFor skew greatest x s t (clients x).leases
 
@@ -48,11 +49,42 @@ module _ (skew greatest : ℕ) (s t : Sight) (replied : Session → List Item) (
     kept = c.kept h.kept;
     sessions = λ x. still_holds skew greatest x s t (clients x) (c.relied x) (h.fitting x) (all_anew skew greatest s replied clients h x) (replied x) (h.sessions x);
     fitting = λ x. still_fits skew greatest x s t (clients x) (c.relied x) (h.fitting x);
-    reserved = subst (λ m. FreshReserved (reserved_by clients) m t.journal) (sym c.records) (subst (λ j. FreshReserved (reserved_by clients) s.records j) (sym c.journal) h.reserved);
+    reserved = subst (λ m. FreshReserved (reserved_by clients) m t.journal) (sym c.stored) (subst (λ j. FreshReserved (reserved_by clients) s.stored j) (sym c.journal) h.reserved);
   }
 
   pub goes_still : GoesOn skew greatest s replied ends clients → GoesOn skew greatest t replied ends clients
   goes_still h = record { all = all_still h.all; carried = carried_still skew greatest s t ends clients c.relied h.all.fitting h.carried }
+
+-- ## Other records are stored
+
+module _ (skew greatest : ℕ) (s : Sight) (stored : RecordMap) (replied : Session → List Item) (ends : Session → Ends) (clients : Session → Settled)
+    (reserved : FreshReserved (reserved_by clients) stored s.journal) where
+  abbrev pub restored : Sight
+  restored = record s { stored = stored }
+
+  relied : (x : Session) → ReliesFor skew greatest x s restored (clients x).leases
+  relied x = record {
+    given = λ k. omega arith;
+    older = λ r i g. record { row = r; stood = i; number = refl; session = refl; field = refl; kind = refl };
+    kept = λ l h r i e late. record { row = r; stands = i; number = refl; lasts = omega arith };
+    values = λ r i g own. inr refl;
+    made = λ file was. was;
+    gone = λ file was none. none;
+    items = refl;
+  }
+
+  -- identifiers alone are said of what is stored
+  pub all_restored : AllHold skew greatest s replied clients → AllHold skew greatest restored replied clients
+  all_restored h = record {
+    servers = record { apart = h.servers.apart; promises = h.servers.promises; serial = h.servers.serial; reaped = h.servers.reaped };
+    kept = record { shaped = h.kept.shaped; counted = h.kept.counted; given = h.kept.given; sound = h.kept.sound; made = h.kept.made };
+    sessions = λ x. still_holds skew greatest x s restored (clients x) (relied x) (h.fitting x) (all_anew skew greatest s replied clients h x) (replied x) (h.sessions x);
+    fitting = λ x. still_fits skew greatest x s restored (clients x) (relied x) (h.fitting x);
+    reserved = reserved;
+  }
+
+  pub goes_restored : GoesOn skew greatest s replied ends clients → GoesOn skew greatest restored replied ends clients
+  goes_restored h = record { all = all_restored h.all; carried = carried_still skew greatest s restored ends clients relied h.all.fitting h.carried }
 
 -- ## One session's leases have the same numbers
 
@@ -102,7 +134,7 @@ module _ (skew greatest : ℕ) (t : Sight) (replied : Session → List Item) (en
         (λ x other. h.later x);
   }
 
-  pub goes_leased : FreshReserved (reserved_by (with_client by (with_leases (l ∷ []) (clients by)) clients)) t.records t.journal → GoesOn skew greatest t replied ends clients → GoesOn skew greatest t replied ends (with_client by d clients)
+  pub goes_leased : FreshReserved (reserved_by (with_client by (with_leases (l ∷ []) (clients by)) clients)) t.stored t.journal → GoesOn skew greatest t replied ends clients → GoesOn skew greatest t replied ends (with_client by d clients)
   goes_leased reserved h = record {
     all = record {
       servers = h.all.servers;

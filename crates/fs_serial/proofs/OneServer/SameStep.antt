@@ -29,11 +29,9 @@ use Rattle.fs_msg.specs.declared.client_msg.ClientMsg.TheVariants.{Ask, Renew, R
 use Rattle.fs_msg.specs.declared.entry.Entry.{Entry}
 use Rattle.fs_parcel.proofs.Both.{ordered_before}
 use Rattle.fs_field.specs.After.{changed_file}
-use Rattle.fs_field.specs.declared.effect.Effect.{Effect}
-use Rattle.fs_field.specs.declared.effect.Effect.TheVariants.{RemoveNode}
 use Rattle.fs_record.specs.Effects.{effects_of}
-use Rattle.fs_record.specs.Fresh.{is_dir, is_directory}
-use Rattle.fs_record.specs.Records.{RecordMap, next_of, node_of}
+use Rattle.fs_record.specs.Fresh.{is_dir}
+use Rattle.fs_record.specs.Records.{next_of, node_of}
 use Rattle.fs_server.specs.Asks.{ask_step}
 use Rattle.fs_server.specs.Pairs.{release_step, renew_step}
 use Rattle.fs_server.specs.Reaps.{lapsed_in, turn_over, turn_step}
@@ -44,8 +42,7 @@ use Rattle.fs_server.specs.declared.event.ServerEvent.{ServerEvent}
 use Rattle.fs_server.specs.declared.event.ServerEvent.TheVariants.{FromClient, FromPeer, Move, Recall, Turn}
 use Rattle.fs_server.specs.declared.state.Server.{Server}
 use Rattle.fs_serial.specs.Cluster.{Cluster, InFlight, after_step, parcels_of, without_arrived}
-use Rattle.fs_txn.specs.Grants.{Decided, effects_in}
-use Rattle.fs_serial.specs.Decided.{DecidedFits}
+use Rattle.fs_txn.specs.Grants.{Decided}
 use Rattle.fs_serial.specs.Exchange.{pairs_in}
 use Rattle.fs_serial.specs.Fresh.{ByLog, IsMade}
 use Rattle.fs_serial.specs.Joined.{records_of_all, rows_of_all}
@@ -54,8 +51,6 @@ use Rattle.fs_serial.specs.Places.{IsHome, PlacesHold}
 use Rattle.fs_serial.specs.Seen.{counts_of, given_at, with_all}
 use Rattle.fs_serial.specs.Settled.{Settled}
 use Rattle.fs_serial.specs.World.{Ends, IsThere, World, WorldHolds, settled_at}
-use Rattle.fs_serial.proofs.DecidedEffects.GrantsPast.{all_decided, going_of, next_held}
-use Rattle.fs_serial.proofs.DecidedEffects.Underway.{kind_held}
 use Rattle.fs_serial.proofs.Lists.Children.{the_child}
 use Rattle.fs_serial.proofs.Lists.Journals.{below_itself}
 use Rattle.fs_serial.proofs.Places.PutRows.{In-puts_here}
@@ -160,8 +155,7 @@ module _ (k : ℕ) (c : Cluster) (s : Server) (places : PlacesHold c) (b : IsBet
   child_here : (dir : List ℕ) (n : ℕ) → (IsMade c.journal (child dir n) → ⊥) → is_mine s dir ≡ true → is_mine s (child dir n) ≡ true
   child_here dir n new mine = ap (λ (o : Option (List ℕ × ℕ)). unwrap_or (option_map (λ e. e.1) o) 0 == s.me) (longest_split (child dir n) dir n s.map refl (unlisted (child dir n) new)) ∙ mine
 
-  module _ (greatest : ℕ) (ds : List Decided) (ends : Session → Ends) (w : WorldHolds greatest (seen_with s c ds ends))
-      (f : DecidedFits (seen_with s c ds ends)) where
+  module _ (greatest : ℕ) (ds : List Decided) (ends : Session → Ends) (w : WorldHolds greatest (seen_with s c ds ends)) where
     abbrev clients : Session → Settled
     clients x = settled_at x (ends x)
 
@@ -175,20 +169,9 @@ module _ (k : ℕ) (c : Cluster) (s : Server) (places : PlacesHold c) (b : IsBet
 
     fresh_here : (dir : List ℕ) → HasFreshHere s dir
     fresh_here dir mine is n next =
-        let m : RecordMap = (with_all s c).records in
-        let es : List Effect = effects_in ds in
-        let at : get m dir ≡ get s.records dir = ap (λ (t : Server). get t.records dir) here ∙ record_here more s apart dir mine in
-        let lives : is_directory m dir ≡ true = ap (λ o. is_dir (kind_of (node_of o))) at ∙ is in
-        let decided = all_decided ds (with_all s c) c.journal f.all in
-        let stays : In (RemoveNode dir) es → ⊥ = λ i.
-        let q = going_of ds (with_all s c) c.journal f.all dir i in
-        let wrong : false ≡ true = sym (q.1.1.file).1 ∙ lives in
-        absurd (cc) in
+        let at : get (with_all s c).records dir ≡ get s.records dir = ap (λ (t : Server). get t.records dir) here ∙ record_here more s apart dir mine in
         child_here dir n (λ made. w.all.reserved.made_before dir n (child dir n)
-        (ap is_dir (kind_held m es dir decided stays) ∙ lives)
-        (subst (λ k. k ≤ n) (sym (next_held m es dir decided stays lives)) (subst (λ o. next_of o ≤ n) (sym at) next))
-        made
-        (below_itself (child dir n))) mine
+        (ap (λ o. is_dir (kind_of (node_of o))) at ∙ is) (subst (λ o. next_of o ≤ n) (sym at) next) made (below_itself (child dir n))) mine
 
     -- the rows with the numbers of pairs are at the server of their files
     pairs_at_home : (by : Session) (pairs : List (List ℕ × LeaseNo)) (m : ClientMsg) → In m (ends by).up → pairs_in m ≡ pairs → ArePairsHere s pairs more.rows
@@ -248,39 +231,39 @@ module _ (k : ℕ) (c : Cluster) (s : Server) (places : PlacesHold c) (b : IsBet
 -- ## Each kind
 
 ask_same : (greatest k : ℕ) (c : Cluster) (s : Server) (by : Session) (items : List (Field × LeaseKind)) (dir : Option (List ℕ)) → slice_get c.servers k ≡ Some s → PlacesHold c
-    → (ds : List Decided) (ends : Session → Ends) → WorldHolds greatest (seen_with s c ds ends) → DecidedFits (seen_with s c ds ends)
+    → (ds : List Decided) (ends : Session → Ends) → WorldHolds greatest (seen_with s c ds ends)
     → IsSameStep k (FromClient by (Ask items dir)) s (ask_step by items dir s) (ask_step by items dir (with_all s c)) c
-ask_same greatest k c s by items dir is places ds ends w f =
+ask_same greatest k c s by items dir is places ds ends w =
     let b : IsBetween c.servers k s = between c.servers k s is in
     stepped k c s places b (FromClient by (Ask items dir)) (λ in_flight. refl) (ask_step by items dir) (ask_step by items dir s)
-    (ask_sim (more k c s places b) by items dir s (counted k c s places b greatest ds ends w f) (λ d e. fresh_here k c s places b greatest ds ends w f d))
+    (ask_sim (more k c s places b) by items dir s (counted k c s places b greatest ds ends w) (λ d e. fresh_here k c s places b greatest ds ends w d))
 
 renew_same : (greatest k : ℕ) (c : Cluster) (s : Server) (by : Session) (pairs : List (List ℕ × LeaseNo)) → slice_get c.servers k ≡ Some s → PlacesHold c
-    → (ds : List Decided) (ends : Session → Ends) → WorldHolds greatest (seen_with s c ds ends) → DecidedFits (seen_with s c ds ends)
+    → (ds : List Decided) (ends : Session → Ends) → WorldHolds greatest (seen_with s c ds ends)
     → In (Renew pairs) (ends by).up
     → IsSameStep k (FromClient by (Renew pairs)) s (renew_step by pairs s) (renew_step by pairs (with_all s c)) c
-renew_same greatest k c s by pairs is places ds ends w f there =
+renew_same greatest k c s by pairs is places ds ends w there =
     let b : IsBetween c.servers k s = between c.servers k s is in
     stepped k c s places b (FromClient by (Renew pairs)) (λ in_flight. refl) (renew_step by pairs) (renew_step by pairs s)
-    (renew_sim (more k c s places b) by pairs s (apart k c s places b) (pairs_at_home k c s places b greatest ds ends w f by pairs (Renew pairs) there refl))
+    (renew_sim (more k c s places b) by pairs s (apart k c s places b) (pairs_at_home k c s places b greatest ds ends w by pairs (Renew pairs) there refl))
 
 release_same : (greatest k : ℕ) (c : Cluster) (s : Server) (by : Session) (pairs : List (List ℕ × LeaseNo)) → slice_get c.servers k ≡ Some s → PlacesHold c
-    → (ds : List Decided) (ends : Session → Ends) → WorldHolds greatest (seen_with s c ds ends) → DecidedFits (seen_with s c ds ends)
+    → (ds : List Decided) (ends : Session → Ends) → WorldHolds greatest (seen_with s c ds ends)
     → In (Release pairs) (ends by).up
     → IsSameStep k (FromClient by (Release pairs)) s (release_step by pairs s) (release_step by pairs (with_all s c)) c
-release_same greatest k c s by pairs is places ds ends w f there =
+release_same greatest k c s by pairs is places ds ends w there =
     let b : IsBetween c.servers k s = between c.servers k s is in
     stepped k c s places b (FromClient by (Release pairs)) (λ in_flight. refl) (release_step by pairs) (release_step by pairs s)
-    (release_sim (more k c s places b) by pairs s (apart k c s places b) (pairs_at_home k c s places b greatest ds ends w f by pairs (Release pairs) there refl))
+    (release_sim (more k c s places b) by pairs s (apart k c s places b) (pairs_at_home k c s places b greatest ds ends w by pairs (Release pairs) there refl))
 
 ship_same : (greatest k : ℕ) (c : Cluster) (s : Server) (by : Session) (entries : List Entry) → slice_get c.servers k ≡ Some s → PlacesHold c
-    → (ds : List Decided) (ends : Session → Ends) → WorldHolds greatest (seen_with s c ds ends) → DecidedFits (seen_with s c ds ends)
+    → (ds : List Decided) (ends : Session → Ends) → WorldHolds greatest (seen_with s c ds ends)
     → In (Ship entries) (ends by).up
     → IsSameStep k (FromClient by (Ship entries)) s (ship_step by entries s) (ship_step by entries (with_all s c)) c
-ship_same greatest k c s by entries is places ds ends w f there =
+ship_same greatest k c s by entries is places ds ends w there =
     let b : IsBetween c.servers k s = between c.servers k s is in
     stepped k c s places b (FromClient by (Ship entries)) (λ in_flight. refl) (ship_step by entries) (ship_step by entries s)
-    (ship_sim (more k c s places b) by entries s (apart k c s places b) (entries_at_home k c s places b greatest ds ends w f by entries there))
+    (ship_sim (more k c s places b) by entries s (apart k c s places b) (entries_at_home k c s places b greatest ds ends w by entries there))
 
 recall_same : (k : ℕ) (c : Cluster) (s : Server) (field : Field) → slice_get c.servers k ≡ Some s → PlacesHold c → IsSameStep k (Recall field) s (recall_step field s) (recall_step field (with_all s c)) c
 recall_same k c s field is places =
@@ -294,15 +277,15 @@ turn_same k c s is places =
 
 -- a question that is on its way, or a recall
 pub begun_in : (greatest k : ℕ) (c : Cluster) (s : Server) (e : ServerEvent) → slice_get c.servers k ≡ Some s → PlacesHold c
-    → (ds : List Decided) (ends : Session → Ends) → WorldHolds greatest (seen_with s c ds ends) → DecidedFits (seen_with s c ds ends)
+    → (ds : List Decided) (ends : Session → Ends) → WorldHolds greatest (seen_with s c ds ends)
     → IsThere e ends → IsOther e → (e ≡ Turn → ⊥)
     → IsSameStep k e s (event_step e s) (event_step e (with_all s c)) c
-begun_in greatest k c s (FromClient by (Ask items dir)) is places ds ends w f there o q = ask_same greatest k c s by items dir is places ds ends w f
-begun_in greatest k c s (FromClient by (Renew pairs)) is places ds ends w f there o q = renew_same greatest k c s by pairs is places ds ends w f there
-begun_in greatest k c s (FromClient by (Release pairs)) is places ds ends w f there o q = release_same greatest k c s by pairs is places ds ends w f there
-begun_in greatest k c s (FromClient by (Ship entries)) is places ds ends w f there o q = ship_same greatest k c s by entries is places ds ends w f there
-begun_in greatest k c s (FromClient by (Lead m)) is places ds ends w f there o q = absurd o
-begun_in greatest k c s (FromPeer from m) is places ds ends w f there o q = absurd there
-begun_in greatest k c s Turn is places ds ends w f there o q = absurd (q refl)
-begun_in greatest k c s (Recall field) is places ds ends w f there o q = recall_same k c s field is places
-begun_in greatest k c s (Move prefix to) is places ds ends w f there o q = absurd there
+begun_in greatest k c s (FromClient by (Ask items dir)) is places ds ends w there o q = ask_same greatest k c s by items dir is places ds ends w
+begun_in greatest k c s (FromClient by (Renew pairs)) is places ds ends w there o q = renew_same greatest k c s by pairs is places ds ends w there
+begun_in greatest k c s (FromClient by (Release pairs)) is places ds ends w there o q = release_same greatest k c s by pairs is places ds ends w there
+begun_in greatest k c s (FromClient by (Ship entries)) is places ds ends w there o q = ship_same greatest k c s by entries is places ds ends w there
+begun_in greatest k c s (FromClient by (Lead m)) is places ds ends w there o q = absurd o
+begun_in greatest k c s (FromPeer from m) is places ds ends w there o q = absurd there
+begun_in greatest k c s Turn is places ds ends w there o q = absurd (q refl)
+begun_in greatest k c s (Recall field) is places ds ends w there o q = recall_same k c s field is places
+begun_in greatest k c s (Move prefix to) is places ds ends w there o q = absurd there

@@ -39,7 +39,7 @@ use Rattle.fs_serial.specs.Decided.{AllDecidedStand, DecidedFits, EventGoesPast,
 use Rattle.fs_serial.specs.Exchange.{IsQuestion, IsReturned, OneExchange, ReleasesReturned, server_of_question}
 use Rattle.fs_serial.specs.Parts.{with_client}
 use Rattle.fs_serial.specs.Settled.{Settled, acknowledged_all, settled_now, told, with_over}
-use Rattle.fs_serial.specs.Sight.{Sight, seen, sight_of}
+use Rattle.fs_serial.specs.Sight.{Sight, sight_with}
 use Rattle.fs_serial.specs.World.{Ends, GoesOn, IsThere, after_begun, World, WorldHolds, settled_at, sight_in, with_answer, with_sent, without_question}
 use Rattle.fs_serial.proofs.OtherSessions.ClientChanges.{client_same}
 use Rattle.fs_serial.proofs.Grants.Asks as asks
@@ -168,7 +168,7 @@ module _ (greatest : ℕ) (w : World) (by : Session) (h : WorldHolds greatest w)
       let a = Renewed (ends_told until ns s.rows) e in
       subst (λ js. WorldStands greatest (record { server = t; counts = w.counts; decided = w.decided; journal = js; replied = w.replied; ends = with_answer by a (without_question by w.ends) })) (sym (append-nil w.journal)) (
         world_answered greatest w t w.journal by (Renew pairs) a up h w.decided w.replied refl h.clock (renewed_later (given_by w.counts s) until ns s.rows)
-            (unchanged a (sight_of w.counts (seen w.decided t) w.journal) refl (rows_renewed s.skew greatest (sight_in w) w.replied w.ends base until ns s.rows (goes_of greatest w h)))
+            (unchanged a (sight_with w.counts w.decided t w.journal) refl (rows_renewed s.skew greatest (sight_in w) w.replied w.ends base until ns s.rows (goes_of greatest w h)))
             refl
             (λ x z q. renew_fits x pairs until e q)
             (λ ends z q n u i. let same : ends_told until ns s.rows ≡ ends = cc in ends_backed until ns s.rows n u (subst (λ es. In (n, Some u) es) (sym same) i)),
@@ -203,7 +203,7 @@ module _ (greatest : ℕ) (w : World) (by : Session) (h : WorldHolds greatest w)
       let others = others_in greatest w by (Release pairs) (subst (λ ms. In (Release pairs) ms) (sym up) (inl refl)) h f in
       subst (λ js. WorldStands greatest (record { server = t; counts = w.counts; decided = w.decided; journal = js; replied = w.replied; ends = with_answer by a (without_question by w.ends) })) (sym (append-nil w.journal)) (
         world_answered greatest w t w.journal by (Release pairs) a up h w.decided w.replied refl h.clock (released_later (given_by w.counts s) ns s.rows)
-            (unchanged a (sight_of w.counts (seen w.decided t) w.journal) refl (rows_released s.skew greatest (sight_in w) w.replied w.ends base by ns s.rows (λ n i. back n (here_among s pairs n i)) (goes_of greatest w h)))
+            (unchanged a (sight_with w.counts w.decided t w.journal) refl (rows_released s.skew greatest (sight_in w) w.replied w.ends base by ns s.rows (λ n i. back n (here_among s pairs n i)) (goes_of greatest w h)))
             refl
             (λ x z q. release_fits x pairs e q)
             (λ ends z q. absurd (cc)),
@@ -230,8 +230,8 @@ module _ (greatest : ℕ) (w : World) (by : Session) (h : WorldHolds greatest w)
       let d = base by in
       let x = ship_from by entries s [] in
       let others = others_in greatest w by (Ship entries) there h f in
-      let start : GoesOn s.skew greatest (sight_of w.counts (seen w.decided s) (w.journal ++ [])) w.replied w.ends (with_client by d base) =
-      subst (λ js. GoesOn s.skew greatest (sight_of w.counts (seen w.decided s) js) w.replied w.ends (with_client by d base)) (sym (append-nil w.journal))
+      let start : GoesOn s.skew greatest (sight_with w.counts w.decided s (w.journal ++ [])) w.replied w.ends (with_client by d base) =
+      subst (λ js. GoesOn s.skew greatest (sight_with w.counts w.decided s js) w.replied w.ends (with_client by d base)) (sym (append-nil w.journal))
       (subst (λ k. GoesOn s.skew greatest (sight_in w) w.replied w.ends k) (sym (client_same by base)) (goes_of greatest w h)) in
       let under : AllDecidedStand w.decided s (w.journal ++ []) = subst (AllDecidedStand w.decided s) (sym (append-nil w.journal)) f.all in
       let r : IsShipped w.counts s.skew greatest w.journal w.replied w.ends base by w.decided others entries d [] x = shipped_still w.counts s.skew greatest w.journal w.replied w.ends base by w.decided others entries s [] front.rest d front.log front.over under start in
@@ -245,7 +245,7 @@ module _ (greatest : ℕ) (w : World) (by : Session) (h : WorldHolds greatest w)
       let fits : refusal_fits x.end (length x.admitted) entries ≡ true = ap (λ n. refusal_fits x.end n entries) count ∙ r.fits in
       let few = r.few in (
         world_answered greatest w x.server (w.journal ++ x.admitted) by (Ship entries) a up h w.decided w.replied same.skew (omega arith) (same.later w.counts)
-            (subst (λ n. GoesOn s.skew greatest (sight_of w.counts (seen w.decided x.server) (w.journal ++ x.admitted)) w.replied w.ends (with_client by (with_over (over_after x.end d.over) (acknowledged_all by n d)) base)) (sym count) r.goes)
+            (subst (λ n. GoesOn s.skew greatest (sight_with w.counts w.decided x.server (w.journal ++ x.admitted)) w.replied w.ends (with_client by (with_over (over_after x.end d.over) (acknowledged_all by n d)) base)) (sym count) r.goes)
             refl
             (λ y e q. ship_fits y entries front.rest (length x.admitted) x.end (log ∙ front.log) q (omega arith) fits)
             (λ ends e q. absurd (cc)),

@@ -65,7 +65,7 @@ makes_anew clients by m journal f e i id was = makes_there by e.op e.reply id �
     within false t = refl
 
 pub all_anew : (skew greatest : ℕ) (s : Sight) (replied : Session → List Item) (clients : Session → Settled) → AllHold skew greatest s replied clients → (by : Session) → MakeAnew by s.journal (clients by).log
-all_anew skew greatest s replied clients h by = makes_anew clients by s.records s.journal h.reserved
+all_anew skew greatest s replied clients h by = makes_anew clients by s.stored s.journal h.reserved
 
 pub all_unborn : (skew greatest : ℕ) (s : Sight) (replied : Session → List Item) (clients : Session → Settled) → AllHold skew greatest s replied clients → (by : Session) → AreUnborn s.records (clients by)
 all_unborn skew greatest s replied clients h by n id r = unmade_dead s.records s.journal id h.kept.made (λ made. h.reserved.unmade by (ByLease n) id id r made (below_itself id))

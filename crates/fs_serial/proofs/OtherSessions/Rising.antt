@@ -8,7 +8,7 @@ use Rattle.fs_msg.specs.declared.item.Item.{Item}
 use Rattle.fs_server.specs.declared.state.Server.{Server}
 use Rattle.fs_serial.specs.Parts.{AllHold, SessionHolds, SessionFits}
 use Rattle.fs_serial.specs.Settled.{Settled}
-use Rattle.fs_serial.specs.Sight.{Counts, Sight, seen, sight_of}
+use Rattle.fs_serial.specs.Sight.{Counts, Sight, sight_with}
 use Rattle.fs_serial.specs.World.{World, WorldHolds, settled_at, sight_in}
 use Rattle.fs_serial.proofs.LedOperations.LedKept.{each_led}
 use Rattle.fs_serial.proofs.Lists.Counting.{given_by}
@@ -64,8 +64,8 @@ pub lapse_some_keeps : (greatest : ℕ) (w : World) (keep : Row → Bool) → ((
 lapse_some_keeps greatest w keep over h =
     let t : Server = record w.server { rows = filter keep w.server.rows } in
     world_still greatest w t w.journal refl h.clock (later_kept w.counts w.server keep)
-    (goes_still w.server.skew greatest (sight_in w) (sight_of w.counts (seen w.decided t) w.journal) w.replied w.ends (λ x. settled_at x (w.ends x))
-    (rows_lapse greatest w.counts (seen w.decided w.server) w.journal (λ x. settled_at x (w.ends x)) keep over) (goes_of greatest w h)) h
+    (goes_still w.server.skew greatest (sight_in w) (sight_with w.counts w.decided t w.journal) w.replied w.ends (λ x. settled_at x (w.ends x))
+    (rows_lapse w.server.skew greatest (sight_in w) (λ x. settled_at x (w.ends x)) keep over) (goes_of greatest w h)) h
 
 -- the server's last reading is another, no greater than the greatest
 pub last_rises : (greatest last : ℕ) (w : World) → last ≤ greatest → WorldHolds greatest w → WorldHolds greatest (record w { server = record w.server { last = last } })

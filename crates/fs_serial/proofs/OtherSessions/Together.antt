@@ -47,6 +47,6 @@ client_changes skew greatest s replied clients by more d h holds fits fewer = re
     | false ↦ λ t. h.sessions x
   ] refl;
   fitting = each_session (λ x c. SessionFits skew greatest s x c) by d clients fits (λ x other. h.fitting x);
-  reserved = fewer_reserved (reserved_by clients) (reserved_by (with_client by d clients)) s.records s.journal
+  reserved = fewer_reserved (reserved_by clients) (reserved_by (with_client by d clients)) s.stored s.journal
       (each_session (λ x (c : Settled). NoneAnew (clients x) c) by d clients fewer (λ x other. none_anew (clients x))) h.reserved;
 }

@@ -233,7 +233,7 @@ module _ (skew greatest : ℕ) (s : Sight) (by : Session) (replied : List Item) 
     still_made : (id : List ℕ) → IsMade later.journal id → IsMade s.journal id
     still_made id m = elim (made_before s.journal i id m) as (λ _. IsMade s.journal id) [ inl p ↦ p | inr p ↦ absurd (is.makes id p) ]
 
-    pub read_reserved : (reserved : Reserved) → FreshReserved reserved s.records s.journal → FreshReserved reserved s.records later.journal
+    pub read_reserved : (reserved : Reserved) → FreshReserved reserved s.stored s.journal → FreshReserved reserved s.stored later.journal
     read_reserved reserved f = record {
       once = f.once;
       unmade = λ x n i j p m. f.unmade x n i j p (still_made j m);

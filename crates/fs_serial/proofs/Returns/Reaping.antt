@@ -1,5 +1,5 @@
 -- A session that let go of the lease on its handles on a file loses these: what all sessions rely on, and all parts.
-use Rattle.std.proofs.Common.{◌≡◌, ℕ, ◌+◌, ◌≤◌, ◌==◌, ◌&&◌, Bool, true, false, List, [], ◌∷◌, ◌++◌, refl, sym, ap, ◌∙◌, subst, cond, append-nil, inl, inr, arith}
+use Rattle.std.proofs.Common.{◌≡◌, ℕ, ◌+◌, ◌==◌, ◌&&◌, Bool, true, false, List, [], ◌∷◌, ◌++◌, refl, sym, ap, ◌∙◌, subst, cond, append-nil, inl, inr, arith}
 use Rattle.std.specs.Prelude.{None}
 use Rattle.std.specs.Cmp.{nat_eq_equiv}
 use Rattle.std.specs.FinMap.{get}
@@ -8,17 +8,19 @@ use mathlib.Core.Path.{fun_ext}
 use Rattle.fs_ident.specs.In.{In}
 use Rattle.fs_ident.specs.Ident.{same}
 use Rattle.fs_ident.specs.declared.actor.Session.{Session}
-use Rattle.fs_ident.proofs.Standing.{none_any}
+use Rattle.fs_ident.proofs.Standing.{In-map, none_any}
 use Rattle.fs_ident.proofs.Booleans.{first_fails}
 use Rattle.fs_ident.proofs.Same.{one_session}
 use Rattle.fs_field.specs.Field.{file_of, same_field}
 use Rattle.fs_field.specs.declared.field.Field.TheVariants.{Life, Own}
+use Rattle.fs_field.specs.declared.effect.Effect.TheVariants.{RemoveHandle}
 use Rattle.fs_field.specs.declared.row.Row.{Row}
 use Rattle.fs_field.specs.declared.value.Value.TheVariants as value
 use Rattle.fs_model.specs.Namespace.{first_space}
 use Rattle.fs_model.specs.Sound.{IsSound, kind_of}
 use Rattle.fs_model.specs.declared.op.Op.TheVariants as op
 use Rattle.fs_model.proofs.SoundRuns.{step_sound}
+use Rattle.fs_modes.specs.declared.modes.Modes.{Modes}
 use Rattle.fs_moderows.specs.Answer.{reap_blocker}
 use Rattle.fs_moderows.specs.Kept.{KeptPromises, selves_without}
 use Rattle.fs_moderows.proofs.Reaps.{none_blocks, reap_kept}
@@ -26,13 +28,13 @@ use Rattle.fs_msg.specs.Journal.{asker}
 use Rattle.fs_msg.specs.declared.item.Item.{Item}
 use Rattle.fs_record.specs.Applied.{records_after_all}
 use Rattle.fs_record.specs.Effects.{reap_effects}
-use Rattle.fs_record.specs.Fresh.{is_dir, is_directory}
-use Rattle.fs_record.specs.Records.{RecordMap, AreRecords, node_of, next_of, nodes_of}
-use Rattle.fs_record.specs.ValueOf.{selves_in, value_of, is_other}
-use Rattle.fs_record.proofs.Reaping.{reaped_next, reaped_nodes, reaped_own_value, reaped_selves, reaped_value}
+use Rattle.fs_record.specs.Records.{RecordMap, AreRecords, node_of, nodes_of}
+use Rattle.fs_record.specs.ValueOf.{handles_of, own_of, selves_in, value_of, is_other}
+use Rattle.fs_record.proofs.Reaping.{reaped_nodes, reaped_own_value, reaped_selves, reaped_value}
 use Rattle.fs_record.proofs.AllApplied.{after_all_kept}
 use Rattle.fs_server.specs.Reaps.{has_own, reap_item, with_reap}
 use Rattle.fs_server.specs.declared.state.Server.{Server}
+use Rattle.fs_view.specs.ViewLease.{makes}
 use Rattle.fs_serial.specs.Fresh.{FreshReserved, IsMade, NodesMade, Reserved, or_else, reserved_by}
 use Rattle.fs_serial.specs.Numbers.{AreNumbered, ReapsInOrder, is_server, items_at}
 use Rattle.fs_serial.specs.Parts.{AllHold, ServersFit, ServersHold}
@@ -41,6 +43,7 @@ use Rattle.fs_serial.specs.Rows.{PromisesKept, RowsShaped}
 use Rattle.fs_serial.specs.Serial.{AreSound, JournalSerial}
 use Rattle.fs_serial.specs.Settled.{Settled}
 use Rattle.fs_serial.specs.Sight.{Counts, Sight, sight_of}
+use Rattle.fs_serial.proofs.DecidedEffects.FewerDirectories.{MakeNone, fewer_each, fewer_then, reserved_later, reserved_there}
 use Rattle.fs_serial.proofs.Lists.Journals.{items-other, made-append, made_before, serial_push}
 use Rattle.fs_serial.proofs.OtherSessions.Gone.{all_anew, made_more, still_gone}
 use Rattle.fs_serial.proofs.OtherSessions.Relied.{relied_fits, relied_holds}
@@ -85,6 +88,17 @@ value_same m rows file by shaped before kept gone x r i own =
         | false ↦ λ u. reaped_value by m file x r.field u (ap (λ b. b && same (file_of r.field) file) t)
       ] refl
     ] refl
+
+-- ## What a reap makes
+
+-- handles that are taken away are of no new file
+pub reap_births : (m : RecordMap) (file : List ℕ) (by : Session) → MakeNone (reap_effects m file by)
+reap_births m file by = fewer_each (reap_effects m file by) (λ e i dir.
+    let q = In-map (λ (h : ℕ × Modes). RemoveHandle file by h.0) e (own_of by (handles_of (node_of (get m file)))) i in
+    ap (makes dir) q.1.1)
+
+pub reap_makes : (journal : List Item) (me n : ℕ) (file : List ℕ) (by : Session) (id : List ℕ) → IsMade (journal ++ reap_item me n file by ∷ []) id → IsMade journal id
+reap_makes journal me n file by id m = elim (made_before journal (reap_item me n file by) id m) as (λ _. IsMade journal id) [ inl p ↦ p | inr p ↦ absurd (cc p) ]
 
 -- ## Numbers of reaps
 
@@ -143,22 +157,10 @@ module _ (o : Counts) (skew greatest : ℕ) (s : Server) (journal : List Item) (
 
   -- ## Identifiers
 
-  was_made : (id : List ℕ) → IsMade after.journal id → IsMade journal id
-  was_made id m = elim (made_before journal item id m) as (λ _. IsMade journal id) [ inl p ↦ p | inr p ↦ absurd (cc p) ]
-
-  was_directory : (dir : List ℕ) → is_directory after.records dir ≡ true → is_directory s.records dir ≡ true
-  was_directory dir d = ap is_dir (sym (kind_same s.records file by dir)) ∙ d
-
-  was_next : (dir : List ℕ) (k : ℕ) → next_of (get after.records dir) ≤ k → next_of (get s.records dir) ≤ k
-  was_next dir k le = subst (λ n. n ≤ k) (reaped_next by s.records file dir) le
-
   pub reap_reserved : (reserved : Reserved) → FreshReserved reserved s.records journal → FreshReserved reserved after.records after.journal
-  reap_reserved reserved f = record {
-    once = f.once;
-    unmade = λ x n i j p m. f.unmade x n i j p (was_made j m);
-    made_before = λ dir k j d le m. f.made_before dir k j (was_directory dir d) (was_next dir k le) (was_made j m);
-    reserved_before = λ dir k x n j d le p. f.reserved_before dir k x n j (was_directory dir d) (was_next dir k le) p;
-  }
+  reap_reserved reserved f =
+      reserved_later reserved after.records journal after.journal (reap_makes journal s.me (s.reaps + 1) file by)
+      (reserved_there reserved s.records after.records journal (fewer_then s.records (reap_effects s.records file by) (reap_births s.records file by)) f)
 
 -- ## All parts
 

@@ -23,20 +23,23 @@ use Rattle.fs_server.proofs.OneByOne.{Lapsed, each_lapsed, reaps_leave}
 use Rattle.fs_txn.specs.Decided.{IsApart, held_with}
 use Rattle.fs_txn.specs.Grants.{Decided, effects_in}
 use Rattle.fs_serial.specs.Decided.{AllDecidedStand, DecidedFits, WorldStands}
+use Rattle.fs_serial.specs.Fresh.{reserved_by}
 use Rattle.fs_serial.specs.Settled.{Settled}
-use Rattle.fs_serial.specs.Sight.{Counts, Sight, seen, sight_of}
+use Rattle.fs_serial.specs.Sight.{Counts, Sight, seen, sight_beside, sight_of, sight_with}
 use Rattle.fs_serial.proofs.DecidedEffects.AdmitPast.{inside_apart}
 use Rattle.fs_serial.specs.World.{Ends, GoesOn, World, WorldHolds, settled_at, with_sent}
 use Rattle.fs_serial.proofs.Lists.Counting.{given_by}
-use Rattle.fs_serial.proofs.OneServer.LeaseChanges.{carried_still}
+use Rattle.fs_serial.proofs.OneServer.LeaseChanges.{carried_still, goes_restored}
 use Rattle.fs_serial.proofs.OtherSessions.Gone.{made_more}
+use Rattle.fs_serial.proofs.DecidedEffects.FewerDirectories.{fewer_then, reserved_later, reserved_there}
 use Rattle.fs_serial.proofs.DecidedEffects.GrantsPast.{handles_alike, selves_alike, unused}
 use Rattle.fs_serial.proofs.OtherSessions.Older.{IsLater, later_itself}
 use Rattle.fs_serial.proofs.DecidedEffects.Owing.{fits_then, sent_owed}
-use Rattle.fs_serial.proofs.Returns.Reaping.{reap_keeps, reap_relied}
+use Rattle.fs_serial.proofs.Returns.Reaping.{reap_births, reap_keeps, reap_makes, reap_relied}
 use Rattle.fs_serial.proofs.OtherSessions.Relied.{relies_for}
 use Rattle.fs_serial.proofs.ClientMessages.Sending.{goes_of, recall_each, world_all_recalled, world_still}
 use Rattle.fs_serial.proofs.DecidedEffects.StandPast.{AllApart, held_past, stand_past}
+use Rattle.fs_serial.proofs.DecidedEffects.StoredBeside.{goes_seen}
 use Rattle.fs_serial.proofs.DecidedEffects.Underway.{effect_of}
 
 -- ## Who let go
@@ -85,7 +88,7 @@ reap_apart ds s journal file by under d i e j =
 module _ (o : Counts) (skew greatest : ℕ) (journal : List Item) (replied : Session → List Item) (ends : Session → Ends) (clients : Session → Settled) (ds : List Decided) where
   -- what goes on
   abbrev pub Reaps : Server → List Item → Type 0
-  Reaps s admitted = AllDecidedStand ds s (journal ++ admitted) × GoesOn skew greatest (sight_of o (seen ds s) (journal ++ admitted)) replied ends clients
+  Reaps s admitted = AllDecidedStand ds s (journal ++ admitted) × GoesOn skew greatest (sight_with o ds s (journal ++ admitted)) replied ends clients
 
   one_reaped : (s : Server) (admitted : List Item) (file : List ℕ) (by : Session) → has_own s.rows file by ≡ false → reap_blocker (selves_in s.records file) s.rows by file ≡ None → Reaps s admitted → Reaps (with_reap file by s) (admitted ++ reap_item s.me (s.reaps + 1) file by ∷ [])
   one_reaped s admitted file by gone free h =
@@ -97,10 +100,15 @@ module _ (o : Counts) (skew greatest : ℕ) (journal : List Item) (replied : Ses
       let past = stand_past ds s now h.0 effects apart (now ++ item ∷ []) (λ id was. made_more now item id was) in
       let same : records_after_all there.records (reap_effects there.records file by) ≡ held_with (effects_in ds) (records_after_all s.records effects) =
       ap (λ hs. records_after_all there.records (map (λ (x : ℕ × Modes). RemoveHandle file by x.0) (own_of by hs))) (handles_alike ds s now h.0 file) ∙ sym (held_past ds s now h.0 effects apart) in
-      let goes = goes_reaped o skew greatest there now replied ends clients file by gone (ap (λ v. reap_blocker v s.rows by file) (selves_alike ds s now h.0 file) ∙ free) h.1 in (
+      let stored = (with_reap file by s).records in
+      let joined = goes_seen ds s now h.0 o skew greatest replied clients ends h.1 in
+      let reserved = reserved_later (reserved_by clients) stored now (now ++ item ∷ []) (reap_makes now s.me (s.reaps + 1) file by)
+      (reserved_there (reserved_by clients) s.records stored now (fewer_then s.records effects (reap_births s.records file by)) h.1.all.reserved) in
+      let goes = goes_restored skew greatest (sight_of o (with_reap file by there) (now ++ item ∷ [])) stored replied ends clients reserved
+      (goes_reaped o skew greatest there now replied ends clients file by gone (ap (λ v. reap_blocker v s.rows by file) (selves_alike ds s now h.0 file) ∙ free) joined) in (
         subst (AllDecidedStand ds (with_reap file by s)) (append_assoc journal admitted (item ∷ [])) (record { records = past.records; stand = past.stand }),
-        subst (λ js. GoesOn skew greatest (sight_of o (seen ds (with_reap file by s)) js) replied ends clients) (append_assoc journal admitted (item ∷ []))
-            (subst (λ m. GoesOn skew greatest (sight_of o (record s { reaps = s.reaps + 1; records = m }) (now ++ item ∷ [])) replied ends clients) same goes),
+        subst (λ js. GoesOn skew greatest (sight_with o ds (with_reap file by s) js) replied ends clients) (append_assoc journal admitted (item ∷ []))
+            (subst (λ m. GoesOn skew greatest (sight_beside stored o (record s { reaps = s.reaps + 1; records = m }) (now ++ item ∷ [])) replied ends clients) same goes),
       )
 
   pub goes_all : (xs : Lapsed) (s : Server) (admitted : List Item) (blockers : List LeaseNo) → HaveLetGo s.rows xs → Reaps s admitted → Reaps (reap_from xs s admitted blockers).server (reap_from xs s admitted blockers).admitted
@@ -129,7 +137,7 @@ turn_some_keeps greatest w (x ∷ xs) f gone h =
     let clock = h.clock in
     let last = ap (λ t. t.last) same in
     let start : Reaps w.counts w.server.skew greatest w.journal w.replied w.ends clients w.decided w.server [] =
-    subst (λ js. AllDecidedStand w.decided w.server js × GoesOn w.server.skew greatest (sight_of w.counts (seen w.decided w.server) js) w.replied w.ends clients) (sym (append-nil w.journal)) (f.all, goes_of greatest w h) in
+    subst (λ js. AllDecidedStand w.decided w.server js × GoesOn w.server.skew greatest (sight_with w.counts w.decided w.server js) w.replied w.ends clients) (sym (append-nil w.journal)) (f.all, goes_of greatest w h) in
     let q = goes_all w.counts w.server.skew greatest w.journal w.replied w.ends clients w.decided (x ∷ xs) w.server [] [] gone start in (
       world_all_recalled greatest (record { server = r.server; counts = w.counts; decided = w.decided; journal = w.journal ++ r.admitted; replied = w.replied; ends = w.ends }) (recalls_for r.server.rows r.blockers) (recall_each r.server.rows r.blockers)
           (world_still greatest w r.server (w.journal ++ r.admitted) (ap (λ t. t.skew) same) (omega arith) (later_reaped w.counts w.server r.server same) q.1 h),

@@ -298,6 +298,7 @@ module _ (k skew greatest : ℕ) (c : Cluster) (s : Server) (at : slice_get c.se
         alike_holds greatest relocked (world_of server_then after) (record {
           rows = rows;
           records = ap₂ (λ (ds : List Decided) (m : RecordMap). held_with (effects_in ds) m) decided_still records_still;
+          stored = records_still;
           skew = refl;
           given = λ n. count_set given_at c.servers k s.me s.given server_then me n;
           reaps = λ n. count_set reaps_at c.servers k s.me s.reaps server_then me n;

@@ -39,9 +39,10 @@ use Rattle.fs_txn.specs.Stages.Word.{Prepare, Voted, Decide, Done}
 use Rattle.fs_txn.specs.Votes.{awaits, is_empty_place, is_full}
 use Rattle.fs_txn.specs.declared.leading.Ending.{Ending}
 use Rattle.fs_txn.specs.declared.leading.Leading.{Leading}
-use Rattle.fs_serial.specs.Cluster.{Cluster}
+use Rattle.fs_serial.specs.Cluster.{Cluster, InFlight}
 use Rattle.fs_serial.specs.Leading.{LedHolds}
-use Rattle.fs_serial.specs.Words.{Comes, desks_of, key_of, prepared_in, ready_at, told_with, wanted_of, word_in}
+use Rattle.fs_serial.specs.Words.{Comes, desks_of, ended_in, key_of, led_in, prepared_in, ready_at, told_in, told_with, wanted_of, word_in}
+use Rattle.fs_serial.proofs.Replies.Knowing.{In-filter_map}
 use Rattle.fs_serial.proofs.Transactions.Desks.{IsDecidingWord, IsDoneWord, IsPreparingWord, IsVotedWord, deciding_word, done_word, heard, preparing_word, stage_was, voted_word}
 
 -- ## Lists
@@ -117,6 +118,19 @@ is_awaited number at (x ∷ xs) e =
       | false ↦
           λ q. is_awaited number at xs q
     ] e
+
+-- where a decision is on its way to a part, its leader awaits that the part is done
+pub decide_awaits : (c : Cluster) → LedHolds c → (f : InFlight) → In f c.in_flight → (m : DecideMsg) → f.message ≡ peer.Decide m
+    → IsAwaitedBy m.number (ended_in c.servers m.txn) f.to
+decide_awaits c held f i m e =
+    let key : Key = key_of m.txn m.number in
+    let word : Told = told_with f.from f.to (key, Decide m.effects) in
+    let told : told_in f ≡ Some word =
+    ap (λ x. told_in (let g : InFlight = record { from = f.from; to = f.to; message = x } in g)) e in
+    let q : IsDecidingWord (desks_of held.parts c) key word =
+    deciding_word (desks_of held.parts c) key word refl held.stages (In-filter_map told_in f word c.in_flight i told) m.effects refl in
+    let to : f.to ≡ q.at = ap (λ (x : Told). x.to) q.is in
+    awaited_by m.number f.to (led_in c.servers m.txn) (ended_in c.servers m.txn) (q.stage ∙ ap Awaited (sym to))
 
 -- ## A word that comes to a server
 
@@ -343,13 +357,13 @@ module _ (k from : ℕ) (c : Cluster) (s : Server) (at : slice_get c.servers k �
       (is_awaited m.number from q.ending.awaits q.stage)
 
   pub words_known : (m : PeerMsg) → Comes k from c m → (word_in m ≡ None → ⊥) → IsKnown (peer_step from m s)
-  words_known (peer.Parcel p) comes word = absurd (word refl)
   words_known (peer.Prepare m) comes word = subst IsKnown (sym (prepare_awaited m comes)) (λ e. absurd (cc))
   words_known (peer.Vote m) comes word = let q = vote_awaited m comes in
       subst IsKnown (sym (vote_is m q)) (voted_known m.number m.vote q.wanted q.leading s q.part)
   words_known (peer.Decide m) comes word = subst IsKnown (sym (decide_awaited m comes)) (λ e. absurd (cc))
   words_known (peer.Done m) comes word = let q = done_awaited m comes in
       subst IsKnown (sym (done_is m q)) (done_known (without_done m.number q.ending) _ s)
+  words_known m comes word = absurd (word refl)
 
 pub words_awaited : (k from : ℕ) (c : Cluster) (s : Server) → slice_get c.servers k ≡ Some s → (m : PeerMsg) → Comes k from c m → LedHolds c
     → (word_in m ≡ None → ⊥) → (peer_step from m s).out.note ≢ note.Strange

@@ -13,7 +13,7 @@ use Rattle.fs_msg.specs.declared.answer.Answer.TheVariants as answer
 use Rattle.fs_msg.specs.declared.client_msg.ClientMsg.{ClientMsg}
 use Rattle.fs_msg.specs.declared.client_msg.ClientMsg.TheVariants as message
 use Rattle.fs_client.specs.Acts.{act_on, act_plan, unless_led}
-use Rattle.fs_client.specs.Answers.{answer_plan, fits, strange, told}
+use Rattle.fs_client.specs.Answers.{answer_plan, fits, strange, fitting_plan}
 use Rattle.fs_client.specs.Client.{begun, committed}
 use Rattle.fs_client.specs.Led.{lead_of}
 use Rattle.fs_client.specs.Turns.{idle, turn_free, turn_plan}
@@ -64,7 +64,7 @@ tells_end a = false
 unfit : (c : Client) (now from n : ℕ) (a : Answer) → c.exchange ≡ Some (Leads n) → fits from (Some (Leads n)) a (begun now c) ≡ false
     → IsWaiting c (committed (answer_plan c now from a).ready c)
 unfit c now from n a h f =
-    subst (λ b. IsWaiting c (committed (cond b (told a (begun now c)) (strange (begun now c))).ready c))
+    subst (λ b. IsWaiting c (committed (cond b (fitting_plan a (begun now c)) (strange (begun now c))).ready c))
     (sym (ap (λ x. fits from x a (begun now c)) h ∙ f)) (record { led = refl; exchange = refl })
 
 hear_waits : (c : Client) (now from n : ℕ) (a : Answer) → c.exchange ≡ Some (Leads n) → tells_end a ≡ false

@@ -31,11 +31,8 @@ one_told servers f ms = by_message f.message
   where
     by_message : (m : PeerMsg) → decided_by servers m ++ all_told servers ms ≡ all_told servers
         (cons_option (option_map (told_with f.from f.to) (word_in m)) ms)
-    by_message (peer.Parcel p) = refl
-    by_message (peer.Prepare p) = refl
-    by_message (peer.Vote v) = refl
     by_message (peer.Decide d) = refl
-    by_message (peer.Done d) = refl
+    by_message m = refl
 
 pub told_is : (servers : List Server) (fs : List InFlight) → decided_among servers fs ≡ flat_map (decided_told servers) (telling_of fs)
 told_is servers [] = refl

@@ -19,7 +19,7 @@ use Rattle.fs_serial.specs.Cluster.{Cluster, first_cluster}
 use Rattle.fs_serial.specs.Decided.{WorldStands}
 use Rattle.fs_serial.specs.Leading.{LedHolds}
 use Rattle.fs_serial.specs.Owed.{ends_in, ends_of, owed_at, taken_at}
-use Rattle.fs_serial.specs.Seen.{ClusterHolds, world_of}
+use Rattle.fs_serial.specs.Seen.{ClusterHolds, HasNoPaths, world_of}
 use Rattle.fs_serial.specs.Words.{ended_in, ending_at, kept_at, leading_at, led_in, prepared_in, ready_at, said_at, stage_of_key, wanted_of}
 use Rattle.fs_serial.specs.World.{Ends, WorldHolds}
 use Rattle.fs_serial.proofs.DecidedEffects.Owing.{none_fits}
@@ -100,6 +100,7 @@ module _ (n skew term greatest : ℕ) where
       alike_holds greatest (bare n skew term greatest s) (world_of s c) (record {
         rows = refl;
         records = refl;
+        stored = refl;
         skew = refl;
         given = λ k. refl;
         reaps = λ k. refl;
@@ -116,6 +117,7 @@ module _ (n skew term greatest : ℕ) where
     addressed = λ x. record { up = λ m i. absurd i; down = λ m i d. absurd i };
     places = first_places n skew term greatest;
     led = first_led;
+    pathless = each n skew term greatest HasNoPaths (λ k. (refl, refl));
   }
 
 pub first_stands : (servers skew term greatest : ℕ) → 1 ≤ servers → ClusterHolds skew greatest (first_cluster servers skew term)

@@ -29,7 +29,6 @@ fits_alike w v decided rows records journal ends f = record {
   owed = λ d i e. f.owed d (subst (In d) decided i) (ap (λ (x : Ends). due x.down) (sym (ends d.by)) ∙ e);
 }
 
-pub stands_alike : (greatest : ℕ) (w v : World) → AreAlike w v → v.decided ≡ w.decided → v.server.records ≡ w.server.records
-    → v.server.last ≤ greatest → WorldStands greatest w → WorldStands greatest v
-stands_alike greatest w v q decided records clock h =
-    (alike_holds greatest w v q clock h.0, fits_alike w v decided q.rows records q.journal q.ends h.1)
+pub stands_alike : (greatest : ℕ) (w v : World) → AreAlike w v → v.decided ≡ w.decided → v.server.last ≤ greatest → WorldStands greatest w → WorldStands greatest v
+stands_alike greatest w v q decided clock h =
+    (alike_holds greatest w v q clock h.0, fits_alike w v decided q.rows q.stored q.journal q.ends h.1)

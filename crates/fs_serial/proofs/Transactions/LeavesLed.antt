@@ -6,6 +6,7 @@ use Rattle.std.specs.List.{list_all}
 use Rattle.fs_ident.specs.In.{In}
 use Rattle.fs_ident.specs.Ident.{child}
 use Rattle.fs_ident.specs.declared.actor.LeaseNo.{LeaseNo}
+use Rattle.fs_ident.specs.declared.actor.Peer.{Peer}
 use Rattle.fs_ident.specs.declared.actor.Session.{Session}
 use Rattle.fs_ident.specs.declared.actor.TxnNo.{TxnNo}
 use Rattle.fs_ident.proofs.Same.{one_session}
@@ -23,10 +24,13 @@ use Rattle.fs_msg.specs.declared.client_msg.ClientMsg.TheVariants.{Ask, Renew, R
 use Rattle.fs_msg.specs.declared.end.End.{End}
 use Rattle.fs_msg.specs.declared.end.End.TheVariants as end
 use Rattle.fs_msg.specs.declared.entry.Entry.{Entry}
+use Rattle.fs_msg.specs.declared.msg.Msg.{Msg}
+use Rattle.fs_msg.specs.declared.peer_msg.PeerMsg.{PeerMsg}
 use Rattle.fs_msg.specs.declared.peer_msg.PeerMsg.TheVariants as peer
+use Rattle.fs_msg.specs.declared.server_note.ServerNote.{ServerNote}
 use Rattle.fs_msg.specs.declared.server_note.ServerNote.TheVariants as note
 use Rattle.fs_parcel.proofs.Both.{passing}
-use Rattle.fs_parcel.specs.Parcel.{move_refusal}
+use Rattle.fs_path.specs.Tables.{PathTables, first_in}
 use Rattle.fs_parcel.specs.declared.error.MoveError.{MoveError}
 use Rattle.fs_record.specs.Effects.{tells_its_effects}
 use Rattle.fs_record.specs.Fresh.{fresh_number, is_directory}
@@ -35,7 +39,7 @@ use Rattle.fs_client.specs.declared.exchange.Exchange.{Exchange}
 use Rattle.fs_client.specs.declared.exchange.Exchange.TheVariants.{Leads}
 use Rattle.fs_client.specs.declared.led.Led.{Led}
 use Rattle.fs_server.specs.Asks.{Asking, ask_fresh, ask_from, ask_step, asked_in, fresh_for, fresh_in, fresh_of, with_lease}
-use Rattle.fs_server.specs.Moves.{fits_here, hands_over, move_at, move_step, parcel_at}
+use Rattle.fs_server.specs.Moves.{fits_here, hands_over, move_at, move_step, parcel_at, peer_step}
 use Rattle.fs_server.specs.Pairs.{numbers_in, pairs_here, release_step, renew_step}
 use Rattle.fs_server.specs.Reaps.{lapsed_in, reap_from, turn_over, turn_step}
 use Rattle.fs_server.specs.Server.{Stepped, begun, end_of, is_mine, moved, next_number, only_noted, strange}
@@ -52,7 +56,9 @@ use Rattle.fs_txn.specs.declared.leading.Leading.{Leading}
 use Rattle.fs_serial.specs.Cluster.{Cluster, IsThere, Lines, after_step, in_flight_from, is_between, without_arrived}
 use Rattle.fs_serial.specs.Exchange.{IsQuestion, OneExchange}
 use Rattle.fs_serial.specs.Leading.{IsLedBy, LeavesLed, LedHolds}
-use Rattle.fs_serial.specs.Words.{IsNoneOfLed, telling_of}
+use Rattle.fs_serial.specs.PathLaws.{IsPathMessage}
+use Rattle.fs_serial.specs.Words.{Comes, IsNoneOfLed, telling_of, word_in}
+use Rattle.fs_serial.proofs.Moves.PathSteps.{ArePathSends, each_message, none_worded, path_stepped, refusal_here, refused}
 use Rattle.fs_serial.proofs.OneServer.Sim.{recalls_quiet}
 use Rattle.fs_serial.proofs.OneServer.SimAsk.{asked_quiet}
 use Rattle.fs_serial.proofs.OneServer.SimTurn.{reaps_quiet}
@@ -242,9 +248,17 @@ module _ (k : ℕ) (s : Server) (c : Cluster) where
   recall_leaves field = leaves_led k (event.Recall field) s (recall_step field s) c (tables_itself s)
       (ap telling_of (recalls_quiet k (recalled_on field s))) refl
 
+  -- ## What is quiet
+
+  quiet_leaves : (e : ServerEvent) (n : ServerNote) (ms : List (Peer × Msg)) (paths : PathTables) (asking : List (List ℕ)) (given : ℕ)
+      → ArePathSends ms → comes_words k e c ≡ telling_of c.in_flight → LeavesLed k e s (path_stepped n ms paths asking given s) c
+  quiet_leaves e n ms paths asking given sent taken = leaves_led k e s (path_stepped n ms paths asking given s) c
+      (record { me = refl; txns = omega arith; leading = refl; ending = refl; prepared = refl; locks = locks_itself s.rows })
+      (none_worded k ms sent) taken
+
   -- ## What moves
 
-  moved_off : (prefix : List ℕ) (to : ℕ) (o : Option MoveError) → move_refusal s.records s.rows s.map s.me prefix to None ≡ o
+  moved_off : (prefix : List ℕ) (to : ℕ) (o : Option MoveError) → refusal_here prefix to s ≡ o
       → LeavesLed k (event.Move prefix to) s (move_at o prefix to s) c
   moved_off prefix to None e = leaves_led k (event.Move prefix to) s (hands_over prefix to s) c
       (record {
@@ -253,20 +267,38 @@ module _ (k : ℕ) (s : Server) (c : Cluster) where
         leading = refl;
         ending = refl;
         prepared = refl;
-        locks = locks_left s.records s.rows s.map s.me prefix to e;
+        locks = locks_left s.records s.rows s.map s.me prefix to (first_in s.map s.me prefix s.paths) e;
       }) refl refl
-  moved_off prefix to (Some why) e = leaves_led k (event.Move prefix to) s (move_at (Some why) prefix to s) c (tables_itself s) refl refl
+  moved_off prefix to (Some why) e = refused (λ (x : Stepped). LeavesLed k (event.Move prefix to) s x c) s
+      (λ n ms paths asking given noted sent. quiet_leaves (event.Move prefix to) n ms paths asking given sent refl) why prefix to
 
   pub move_leaves : (prefix : List ℕ) (to : ℕ) → LeavesLed k (event.Move prefix to) s (move_step prefix to s) c
-  move_leaves prefix to = moved_off prefix to (move_refusal s.records s.rows s.map s.me prefix to None) refl
+  move_leaves prefix to = moved_off prefix to (refusal_here prefix to s) refl
+
+  -- ## What comes from another server
+
+  no_word_taken : (from : ℕ) (m : PeerMsg) → Comes k from c m → word_in m ≡ None
+      → comes_words k (event.FromPeer from m) c ≡ telling_of c.in_flight
+  no_word_taken from m there none =
+      not_heard (is_between from k) c.in_flight (record { from = from; to = k; message = m }) there none
+
+  -- what is no word and not known
+  pub strange_leaves : (from : ℕ) (m : PeerMsg) → Comes k from c m → word_in m ≡ None
+      → LeavesLed k (event.FromPeer from m) s (strange s) c
+  strange_leaves from m there none =
+      leaves_led k (event.FromPeer from m) s (strange s) c (tables_itself s) refl (no_word_taken from m there none)
+
+  pub path_leaves : (from : ℕ) (m : PeerMsg) → Comes k from c m → word_in m ≡ None → IsPathMessage m
+      → LeavesLed k (event.FromPeer from m) s (peer_step from m s) c
+  path_leaves from m there none is = each_message (λ (x : Stepped). LeavesLed k (event.FromPeer from m) s x c) s
+      (λ n ms paths asking given noted sent. quiet_leaves (event.FromPeer from m) n ms paths asking given sent
+      (no_word_taken from m there none)) from m is
 
   -- where no row that comes is locked
-  pub parcel_leaves : (from : ℕ) (p : Parcel) → IsThere k (event.FromPeer from (peer.Parcel p)) c
+  pub parcel_leaves : (from : ℕ) (p : Parcel) → Comes k from c (peer.Parcel p)
       → ((r : Row) → In r p.rows → r.lock ≡ None)
       → LeavesLed k (event.FromPeer from (peer.Parcel p)) s (parcel_at (fits_here p s) p s) c
   parcel_leaves from p there free =
-      let taken : comes_words k (event.FromPeer from (peer.Parcel p)) c ≡ telling_of c.in_flight =
-      not_heard (is_between from k) c.in_flight _ there refl in
       elim (fits_here p s) as (λ b. LeavesLed k (event.FromPeer from (peer.Parcel p)) s (parcel_at b p s) c) [
         | true ↦ leaves_led k (event.FromPeer from (peer.Parcel p)) s (parcel_at true p s) c
             (record {
@@ -276,8 +308,8 @@ module _ (k : ℕ) (s : Server) (c : Cluster) where
               ending = refl;
               prepared = refl;
               locks = locks_with_rows p.rows s.rows free;
-            }) refl taken
-        | false ↦ leaves_led k (event.FromPeer from (peer.Parcel p)) s (parcel_at false p s) c (tables_itself s) refl taken
+            }) refl (no_word_taken from (peer.Parcel p) there refl)
+        | false ↦ strange_leaves from (peer.Parcel p) there refl
       ]
 
 -- ## Every event
@@ -301,6 +333,7 @@ event_leaves k s c (event.FromPeer from (peer.Prepare m)) there none free = absu
 event_leaves k s c (event.FromPeer from (peer.Vote m)) there none free = absurd (cc none)
 event_leaves k s c (event.FromPeer from (peer.Decide m)) there none free = absurd (cc none)
 event_leaves k s c (event.FromPeer from (peer.Done m)) there none free = absurd (cc none)
+event_leaves k s c (event.FromPeer from m) there none free = path_leaves k s c from m there none tt
 event_leaves k s c event.Turn there none free = turn_leaves k s c
 event_leaves k s c (event.Recall field) there none free = recall_leaves k s c field
 event_leaves k s c (event.Move prefix to) there none free = move_leaves k s c prefix to

@@ -5,6 +5,7 @@ use Rattle.std.specs.FinMap.{get}
 use Rattle.fs_ident.specs.In.{In}
 use Rattle.fs_ident.specs.declared.actor.LeaseNo.{LeaseNo}
 use Rattle.fs_ident.specs.declared.actor.Session.{Session}
+use Rattle.fs_ident.specs.declared.actor.PathNo.{PathNo}
 use Rattle.fs_ident.specs.declared.actor.TxnNo.{TxnNo}
 use Rattle.fs_ident.proofs.Standing.{In-filter, In-map, In-mapped, In-put}
 use Rattle.fs_field.specs.Field.{file_of}
@@ -182,16 +183,16 @@ not_busy : (o : Option TxnNo) (later : Option MoveError) → busy_or o later ≡
 not_busy None later h = refl
 not_busy (Some t) later h = absurd (cc h)
 
-module _ (records : RecordMap) (rows : List Row) (map : Owners) (me : ℕ) (prefix : List ℕ) (to : ℕ)
-    (goes : move_refusal records rows map me prefix to None ≡ None) where
+module _ (records : RecordMap) (rows : List Row) (map : Owners) (me : ℕ) (prefix : List ℕ) (to : ℕ) (through : Option PathNo)
+    (goes : move_refusal records rows map me prefix to through ≡ None) where
   none_busy : locked_in prefix map me rows ≡ None
-  none_busy = not_busy (locked_in prefix map me rows) (paths_out None)
+  none_busy = not_busy (locked_in prefix map me rows) (paths_out through)
       (refused_last (not (server_of map prefix == me)) (not (is_some (get records prefix))) (to == me)
-      (not_mine (longest map prefix)) move.NoFile move.Same (busy_or (locked_in prefix map me rows) (paths_out None)) goes)
+      (not_mine (longest map prefix)) move.NoFile move.Same (busy_or (locked_in prefix map me rows) (paths_out through)) goes)
 
   free_below : (r : Row) → In r rows → is_on_given prefix (piece_of map me prefix) r ≡ true → r.lock ≡ None
   free_below r i g = none_locked prefix map me rows none_busy r i
-      (sym ((piece_piece map me prefix (is_mine records rows map me prefix to None goes)).1 (file_of r.field)) ∙ g)
+      (sym ((piece_piece map me prefix (is_mine records rows map me prefix to through goes)).1 (file_of r.field)) ∙ g)
 
   -- what goes is unlocked
   pub goes_unlocked : (r : Row) → In r (rows_given prefix (piece_of map me prefix) rows) → r.lock ≡ None

@@ -19,7 +19,6 @@ use Rattle.fs_msg.specs.declared.client_msg.ClientMsg.TheVariants.{Ask, Renew, R
 use Rattle.fs_msg.specs.declared.peer_msg.PeerMsg.{PeerMsg}
 use Rattle.fs_msg.specs.declared.peer_msg.PeerMsg.TheVariants as peer
 use Rattle.fs_msg.specs.declared.server_note.ServerNote.TheVariants as note
-use Rattle.fs_parcel.specs.Parcel.{move_refusal}
 use Rattle.fs_parcel.specs.declared.error.MoveError.{MoveError}
 use Rattle.fs_record.specs.Records.{RecordMap}
 use Rattle.fs_record.specs.declared.parcel.Parcel.{Parcel}
@@ -43,7 +42,7 @@ use Rattle.fs_serial.specs.Owed.{ends_in, taken_leads}
 use Rattle.fs_serial.specs.Places.{PlacesHold}
 use Rattle.fs_serial.specs.Refusals.{rows_in}
 use Rattle.fs_serial.specs.Runs.{records_in}
-use Rattle.fs_serial.specs.Seen.{ClusterHolds, counts_of, given_at, reaps_at, with_all, world_of}
+use Rattle.fs_serial.specs.Seen.{ClusterHolds, HasNoPaths, counts_of, given_at, reaps_at, with_all, world_of}
 use Rattle.fs_serial.specs.Sight.{count_with}
 use Rattle.fs_serial.specs.Words.{IsNoneOfLed, decided_in, word_in}
 use Rattle.fs_serial.specs.World.{Ends, World}
@@ -55,6 +54,8 @@ use Rattle.fs_serial.proofs.LedOperations.NoReplies.{replies_still}
 use Rattle.fs_serial.specs.World.{IsOther}
 use Rattle.fs_serial.proofs.Lists.Traffic.{messages}
 use Rattle.fs_serial.proofs.Moves.Arriving.{arriving_places, arriving_same, parcel_stands}
+use Rattle.fs_serial.proofs.Moves.KeptPaths.{event_pathless}
+use Rattle.fs_serial.proofs.Moves.PathSteps.{none_told, refusal_here, refused, refused_pathless}
 use Rattle.fs_serial.proofs.Moves.Leaving.{LivesMade, move_same, moved_places}
 use Rattle.fs_serial.proofs.Moves.ParcelFits.{RowsStand}
 use Rattle.fs_serial.proofs.OneServer.SameStep.{begun_in, turn_same}
@@ -67,6 +68,7 @@ use Rattle.fs_serial.proofs.Transactions.FitsAlike.{stands_alike}
 use Rattle.fs_serial.proofs.Transactions.GivesBack.{release_unlocked}
 use Rattle.fs_serial.proofs.Transactions.LeavesLed.{IsUnlocked, event_leaves}
 use Rattle.fs_serial.proofs.Transactions.OthersKeep.{step_keeps_led, taken_client}
+use Rattle.fs_serial.proofs.Transactions.PlacesAfter.{names_there}
 use Rattle.fs_serial.proofs.Transactions.SeenMeanwhile.{decided_after, ends_after}
 use Rattle.fs_serial.proofs.Transactions.StandsAfter.{all_stand, ones, stands_after, view}
 use Rattle.fs_serial.proofs.WholeRuns.Addressing.{AreDue, sent_addressed, taken_addressed}
@@ -82,15 +84,26 @@ record IsQuietStep (s : Server) (x : Stepped) : Type 0 where
   reaps : x.server.reaps ≡ s.reaps
   admitted : x.out.admitted ≡ []
   sent : (ends : Session → Ends) (y : Session) → world.with_sent x.out.send ends y ≡ ends y
+  pathless : HasNoPaths s → HasNoPaths x.server
 
 move_quiet : (o : Option MoveError) (prefix : List ℕ) (to : ℕ) (s : Server) → IsQuietStep s (move_at o prefix to s)
 move_quiet None prefix to s =
-    record { me = refl; skew = refl; last = refl; given = refl; reaps = refl; admitted = refl; sent = λ ends y. refl }
+    record { me = refl; skew = refl; last = refl; given = refl; reaps = refl; admitted = refl; sent = λ ends y. refl; pathless = λ p. p }
 move_quiet (Some why) prefix to s =
-    record { me = refl; skew = refl; last = refl; given = refl; reaps = refl; admitted = refl; sent = λ ends y. refl }
+    refused (λ (x : Stepped). (HasNoPaths s → HasNoPaths x.server) → IsQuietStep s x) s
+    (λ n ms paths asking given noted sent pathless. record {
+      me = refl;
+      skew = refl;
+      last = refl;
+      given = refl;
+      reaps = refl;
+      admitted = refl;
+      sent = λ ends y. ap (λ (f : Session → Ends). f y) (none_told ms sent ends);
+      pathless = pathless;
+    }) why prefix to (refused_pathless why prefix to s)
 
 install_quiet : (p : Parcel) (s : Server) → IsQuietStep s (only_noted (note.Installs p.prefix) (installed p s))
-install_quiet p s = record { me = refl; skew = refl; last = refl; given = refl; reaps = refl; admitted = refl; sent = λ ends y. refl }
+install_quiet p s = record { me = refl; skew = refl; last = refl; given = refl; reaps = refl; admitted = refl; sent = λ ends y. refl; pathless = λ p. p }
 
 module _ (skew greatest k : ℕ) (c : Cluster) (s : Server) (at : slice_get c.servers k ≡ Some s) (h : ClusterHolds skew greatest c) where
   abbrev w : World
@@ -144,8 +157,9 @@ module _ (skew greatest k : ℕ) (c : Cluster) (s : Server) (at : slice_get c.se
       let e : ServerEvent = event.FromClient by m in
       let big : Stepped = event_step e (with_all s c) in
       stands_after skew greatest k c s at h e there (event_step e s) big
-      (begun_in greatest k c s e at h.places (decided_in c) (ends_in c) now.0 now.1 (coming by m there) other (λ z. absurd (cc)))
-      (event_leaves k s c e there (none_of_led by m other) (unlocked by m there)) (answers_due e (none_of_led by m other) there)
+      (begun_in greatest k c s e at h.places (decided_in c) (ends_in c) now.0 (coming by m there) other (λ z. absurd (cc)))
+      (event_leaves k s c e there (none_of_led by m other) (unlocked by m there)) (event_pathless e s (none_of_led by m other) tt)
+      (answers_due e (none_of_led by m other) there)
       (subst (λ replied. WorldStands greatest (record {
         server = big.server;
         counts = counts_of c.servers;
@@ -159,15 +173,16 @@ module _ (skew greatest k : ℕ) (c : Cluster) (s : Server) (at : slice_get c.se
 
   pub turn_event : ClusterHolds skew greatest (after_step k event.Turn (event_step event.Turn s) c)
   turn_event = stands_after skew greatest k c s at h event.Turn tt (turn_step s) (turn_over (lapsed_in s) (with_all s c))
-      (turn_same k c s at h.places) (event_leaves k s c event.Turn tt tt tt) (answers_due event.Turn tt tt)
+      (turn_same k c s at h.places) (event_leaves k s c event.Turn tt tt tt) (event_pathless event.Turn s tt tt)
+      (answers_due event.Turn tt tt)
       (turn_some_keeps greatest w (lapsed_in s) now.1 (all_let_go c k s at h.places) now.0)
 
   pub recall_event : (field : Field) → ClusterHolds skew greatest (after_step k (event.Recall field) (event_step (event.Recall field) s) c)
   recall_event field =
       let e : ServerEvent = event.Recall field in
       stands_after skew greatest k c s at h e tt (event_step e s) (event_step e (with_all s c))
-      (begun_in greatest k c s e at h.places (decided_in c) (ends_in c) now.0 now.1 tt tt (λ z. absurd (cc)))
-      (event_leaves k s c e tt tt tt) (answers_due e tt tt) (begun_keeps greatest w e now.1 tt tt now.0)
+      (begun_in greatest k c s e at h.places (decided_in c) (ends_in c) now.0 tt tt (λ z. absurd (cc)))
+      (event_leaves k s c e tt tt tt) (event_pathless e s tt tt) (answers_due e tt tt) (begun_keeps greatest w e now.1 tt tt now.0)
 
   -- ## Where all rows and records stay
 
@@ -189,10 +204,11 @@ module _ (skew greatest k : ℕ) (c : Cluster) (s : Server) (at : slice_get c.se
     moved_stands : ClusterHolds skew greatest after
     moved_stands =
         let decided : decided_in after ≡ decided_in c = decided_after k e s x c at leaves in
-        all_stand skew greatest k c s at h after x.server refl q.skew clock places (step_keeps_led k e s x c at h.led leaves)
+        all_stand skew greatest k c s at h after x.server refl q.skew clock places q.pathless (step_keeps_led k e s x c at h.led leaves)
         (stands_alike greatest w (world_of x.server after) (record {
           rows = rows;
           records = ap₂ (λ (ds : List Decided) (m : RecordMap). held_with (effects_in ds) m) decided records;
+          stored = records;
           skew = q.skew;
           given = λ j. count_set given_at c.servers k x.server.me x.server.given x.server (q.me ∙ me) j
               ∙ ap (λ n. count_with n x.server.given (λ i. given_at (slice_get c.servers i)) j) q.me
@@ -204,7 +220,7 @@ module _ (skew greatest k : ℕ) (c : Cluster) (s : Server) (at : slice_get c.se
           replied = none;
           ends = λ y. ends_after k e s x c at leaves there (ones skew greatest k c s at h) y
               ∙ q.sent (world.without_taken e (ends_in c)) y ∙ untaken y;
-        }) decided records clock now)
+        }) decided clock now)
         (sent_addressed k x.out.send (without_question k e c.lines) due (taken_addressed k e c.lines h.addressed))
 
   -- ## What moves
@@ -239,7 +255,7 @@ module _ (skew greatest k : ℕ) (c : Cluster) (s : Server) (at : slice_get c.se
 
   lives_made : LivesMade (records_in c) c.journal
   lives_made id kind e = elim (removed_or id es) as (λ _. IsMade c.journal id) [
-    | inl i ↦ (going_of (decided_in c) (with_all s c) c.journal now.1.all id i).1.1.file.0
+    | inl i ↦ (going_of (decided_in c) (with_all s c) c.journal now.1.all id i).1.1.file
     | inr stays ↦ ap (λ (o : Option Kind). is_some o) (now.0.all.kept.made id kind
         (kind_held (records_in c) es id (all_decided (decided_in c) (with_all s c) c.journal now.1.all) stays ∙ e))
   ]
@@ -249,9 +265,10 @@ module _ (skew greatest k : ℕ) (c : Cluster) (s : Server) (at : slice_get c.se
   move_event prefix to there =
       let e : ServerEvent = event.Move prefix to in
       let same = move_same k c s prefix to at h.places in
-      moved_stands e there (event_step e s) (move_quiet (move_refusal s.records s.rows s.map s.me prefix to None) prefix to s)
+      moved_stands e there (event_step e s) (move_quiet (refusal_here prefix to s) prefix to s)
       (event_leaves k s c e there tt tt) refl (λ y. refl) same.0 same.1
-      (moved_places k c s prefix to at h.places now.1.all.records lives_made there) (answers_due e tt there)
+      (moved_places k c s prefix to at h.places (h.pathless s (In-got c.servers k s at)) now.1.all.records lives_made there)
+      (answers_due e tt there)
 
   -- ## A parcel that comes
 
@@ -296,6 +313,7 @@ module _ (skew greatest k : ℕ) (c : Cluster) (s : Server) (at : slice_get c.se
   unlocked_by (event.FromPeer from (peer.Vote m)) there none = tt
   unlocked_by (event.FromPeer from (peer.Decide m)) there none = tt
   unlocked_by (event.FromPeer from (peer.Done m)) there none = tt
+  unlocked_by (event.FromPeer from m) there none = absurd (names_there k from c m h.places there)
   unlocked_by event.Turn there none = tt
   unlocked_by (event.Recall field) there none = tt
   unlocked_by (event.Move prefix to) there none = tt
@@ -312,6 +330,7 @@ module _ (skew greatest k : ℕ) (c : Cluster) (s : Server) (at : slice_get c.se
   by_peer from (peer.Vote m) there none = absurd (cc none)
   by_peer from (peer.Decide m) there none = absurd (cc none)
   by_peer from (peer.Done m) there none = absurd (cc none)
+  by_peer from m there none = absurd (names_there k from c m h.places there)
 
   by_client : (by : Session) (m : ClientMsg) → IsThere k (event.FromClient by m) c → IsNoneOfLed (event.FromClient by m)
       → ClusterHolds skew greatest (after_step k (event.FromClient by m) (event_step (event.FromClient by m) s) c)

@@ -68,18 +68,19 @@ module _ (skew greatest now k : ℕ) (s : Server) (c : Cluster) (at : slice_get 
       stands_alike greatest risen (world_of (begun now s) then) (record {
         rows = rows_are greatest now k s c at before h.places;
         records = ap₂ (λ (ds : List Decided) (m : RecordMap). held_with (effects_in ds) m) decided records;
+        stored = records;
         skew = refl;
         given = λ j. count_set given_at c.servers k s.me s.given (begun now s) me j;
         reaps = λ j. count_set reaps_at c.servers k s.me s.reaps (begun now s) me j;
         journal = refl;
         replied = refl;
         ends = λ y. ends_same c.servers k s (begun now s) at refl refl y (c.lines y);
-      }) decided records before risen_stands
+      }) decided before risen_stands
 
   -- all that holds holds when the event begins
   pub begins_stands : ClusterHolds skew greatest then
   begins_stands =
-      all_stand skew greatest k c s at h then (begun now s) refl refl before (places_then greatest now k s c at before h.places)
+      all_stand skew greatest k c s at h then (begun now s) refl refl before (places_then greatest now k s c at before h.places) (λ p. p)
       (begun_keeps_led k now s c at h.led) seen_then h.addressed
 
 pub other_step : (skew greatest now k : ℕ) (e : ServerEvent) (s : Server) (c : Cluster) → slice_get c.servers k ≡ Some s

@@ -11,6 +11,7 @@ use Rattle.fs_ident.specs.declared.actor.Peer.{Peer}
 use Rattle.fs_ident.specs.declared.actor.Peer.TheVariants.{Client as OfSession, Server as OfServer}
 use Rattle.fs_ident.specs.declared.actor.Session.{Session}
 use Rattle.fs_ident.specs.declared.actor.TxnNo.{TxnNo}
+use Rattle.fs_ident.proofs.Passing.{found}
 use Rattle.fs_ident.proofs.Standing.{In-append, In-got, In-map}
 use Rattle.fs_field.specs.Field.{file_of}
 use Rattle.fs_field.specs.Table.{is_ordered, unlocked_row}
@@ -33,10 +34,11 @@ use Rattle.fs_server.specs.Server.{is_mine, to_session}
 use Rattle.fs_server.specs.Ships.{first_gone}
 use Rattle.fs_server.specs.declared.state.Server.{Server}
 use Rattle.fs_txn.specs.Preparing.{is_used, moved_to, row_locked, rows_locked, rows_voted, vote_by}
-use Rattle.fs_serial.specs.Cluster.{Cluster, InFlight, Lines, in_flight_from, parcel_in, parcels_of, without_first}
+use Rattle.fs_serial.specs.Cluster.{Cluster, InFlight, Lines, in_flight_from, is_between, parcel_in, parcels_of, without_first}
 use Rattle.fs_serial.specs.Joined.{rows_of_all}
 use Rattle.fs_serial.specs.Locks.{IsRelock}
 use Rattle.fs_serial.specs.Places.{IsHome, IsUnderway, MessageNames, PlacesHold, VoteNames, places_for}
+use Rattle.fs_serial.specs.Words.{Comes}
 use Rattle.fs_serial.proofs.Lists.Counted.{total_set}
 use Rattle.fs_serial.proofs.Lists.Times.{all_once, all_ordered, times, times_in}
 use Rattle.fs_serial.proofs.Lists.Traffic.{IsTaken, taken_first}
@@ -278,6 +280,12 @@ vote_names servers s by p h = elim (is_mine s p.file) as
     ]
 
 -- ## A word comes
+
+-- what comes names servers that there are, and is not of path leases
+pub names_there : (k from : ℕ) (c : Cluster) (m : PeerMsg) → PlacesHold c → Comes k from c m → MessageNames (length c.servers) m
+names_there k from c m h comes =
+    let f : InFlight = record { from = from; to = k; message = m } in
+    (h.goes f (found (is_between from k) c.in_flight f comes).0).names
 
 -- where what comes hands nothing over, the parcels on their way stay
 pub word_taken : (is : InFlight → Bool) (fs : List InFlight) (f : InFlight) → find is fs ≡ Some f → parcel_in f.message ≡ None

@@ -84,5 +84,5 @@ module _ (skew greatest k : ℕ) (c : Cluster) (s : Server) (at : slice_get c.se
       let due : asked by ≡ Some k =
       ap (λ (d : Client). asked_server d.exchange) (taken_client k e c.lines by)
       ∙ (h.addressed by).up (k, Lead m) (found (is_with k) (c.lines by).up (k, Lead m) there).0 in
-      stands_after skew greatest k c s at h e there (refuses by why s) big (refuse_same k c s by m at h.places why) put_off_leaves
+      stands_after skew greatest k c s at h e there (refuses by why s) big (refuse_same k c s by m at h.places why) put_off_leaves (λ p. p)
       (one_due k asked by (answer.Led (end.Again why)) [] due (λ m i. absurd i)) seen

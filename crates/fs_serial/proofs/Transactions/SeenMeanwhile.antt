@@ -121,18 +121,20 @@ taken_same ss k s t at leading y led = each_same (taken_at y led) ss k s t at
     (ap (λ (ls : List Leading). flat_map (λ (l : Leading). question_of led)
     (filter (λ (l : Leading). l.leader.session.0 == y.0) ls)) leading)
 
+-- what is owed stays where the endings do
+pub owed_same : (ss : List Server) (k : ℕ) (s t : Server) → slice_get ss k ≡ Some s → t.ending ≡ s.ending → (y : Session)
+    → owed_to y (slice_set ss k t) ≡ owed_to y ss
+owed_same ss k s t at ending y = each_same (owed_at y) ss k s t at
+    (ap (λ (es : List Ending). map (λ (z : Ending). answer.Led z.end) (filter (λ (z : Ending). z.session.0 == y.0) es)) ending)
+
 module _ (ss : List Server) (k : ℕ) (s t : Server) (at : slice_get ss k ≡ Some s) (leading : t.leading ≡ s.leading)
     (ending : t.ending ≡ s.ending) where
-  owed_same : (y : Session) → owed_to y (slice_set ss k t) ≡ owed_to y ss
-  owed_same y = each_same (owed_at y) ss k s t at
-      (ap (λ (es : List Ending). map (λ (z : Ending). answer.Led z.end) (filter (λ (z : Ending). z.session.0 == y.0) es)) ending)
-
   -- what is asked and owed stays where the server's tables do
   pub ends_same : (y : Session) (l : Lines) → ends_with y (slice_set ss k t) l ≡ ends_with y ss l
   ends_same y l =
       ap₂ (λ (ts : List ClientMsg) (os : List Answer). let z : Ends =
       record { client = l.client; up = messages l.up ++ ts; down = os ++ messages l.down } in z)
-      (taken_same ss k s t at leading y l.client.led) (owed_same y)
+      (taken_same ss k s t at leading y l.client.led) (owed_same ss k s t at ending y)
 
 module _ (k : ℕ) (e : ServerEvent) (s : Server) (x : Stepped) (c : Cluster) (at : slice_get c.servers k ≡ Some s)
     (q : LeavesLed k e s x c) where

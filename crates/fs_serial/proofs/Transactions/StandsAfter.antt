@@ -17,7 +17,7 @@ use Rattle.fs_serial.specs.Exchange.{OneExchange, asked_server}
 use Rattle.fs_serial.specs.Leading.{LeavesLed, LedHolds}
 use Rattle.fs_serial.specs.Owed.{ends_in}
 use Rattle.fs_serial.specs.Places.{PlacesHold}
-use Rattle.fs_serial.specs.Seen.{ClusterHolds, IsAddressed, counts_of, given_at, reaps_at, world_of}
+use Rattle.fs_serial.specs.Seen.{ClusterHolds, HasNoPaths, IsAddressed, counts_of, given_at, reaps_at, world_of}
 use Rattle.fs_serial.specs.Sight.{count_with}
 use Rattle.fs_serial.specs.Words.{decided_in}
 use Rattle.fs_serial.specs.World.{World}
@@ -41,13 +41,14 @@ other_meanwhile greatest c s t i j at me at2 me2 skew clock =
     stands_alike greatest (world_of s c) (world_of t c) (record {
       rows = refl;
       records = refl;
+      stored = refl;
       skew = skew;
       given = λ n. count_at_place given_at c.servers j t.me t at2 me2 n ∙ sym (count_at_place given_at c.servers i s.me s at me n);
       reaps = λ n. count_at_place reaps_at c.servers j t.me t at2 me2 n ∙ sym (count_at_place reaps_at c.servers i s.me s at me n);
       journal = refl;
       replied = refl;
       ends = λ x. refl;
-    }) refl refl clock
+    }) refl clock
 
 pub all_meanwhile : (skew greatest k : ℕ) (c : Cluster) (s : Server) → slice_get c.servers k ≡ Some s → PlacesHold c
     → ((t : Server) → In t c.servers → t.skew ≡ skew) → ((t : Server) → In t c.servers → t.last ≤ greatest)
@@ -69,9 +70,9 @@ module _ (skew greatest k : ℕ) (c : Cluster) (s : Server) (at : slice_get c.se
 
   -- what one server that stepped sees, all see
   pub all_stand : (then : Cluster) (t : Server) → then.servers ≡ slice_set c.servers k t → t.skew ≡ s.skew → t.last ≤ greatest
-      → PlacesHold then → LedHolds then → WorldStands greatest (world_of t then)
+      → PlacesHold then → (HasNoPaths s → HasNoPaths t) → LedHolds then → WorldStands greatest (world_of t then)
       → ((x : Session) → IsAddressed (then.lines x)) → ClusterHolds skew greatest then
-  all_stand then t set same clock places led seen addressed =
+  all_stand then t set same clock places none led seen addressed =
       let there : slice_get then.servers k ≡ Some t = ap (λ ss. slice_get ss k) set ∙ get_here c.servers k s t at in
       let skewed : (u : Server) → In u then.servers → u.skew ≡ skew = λ u i.
       elim (In_set c.servers k t u (subst (In u) set i)) as (λ _. u.skew ≡ skew) [
@@ -89,6 +90,10 @@ module _ (skew greatest k : ℕ) (c : Cluster) (s : Server) (at : slice_get c.se
         addressed = addressed;
         places = places;
         led = led;
+        pathless = λ u i. elim (In_set c.servers k t u (subst (In u) set i)) as (λ _. HasNoPaths u) [
+          | inl q ↦ subst HasNoPaths (sym q) (none (h.pathless s (In-got c.servers k s at)))
+          | inr j ↦ h.pathless u j
+        ];
       }
 
   module _ (e : ServerEvent) (there : IsThere k e c) (small big : Stepped) (q : IsSameStep k e s small big c)
@@ -120,6 +125,7 @@ module _ (skew greatest k : ℕ) (c : Cluster) (s : Server) (at : slice_get c.se
         stands_alike greatest made (world_of small.server after) (record {
           rows = sym (ap (λ (t : Server). t.rows) q.server);
           records = ap₂ (λ (ds : List Decided) (m : RecordMap). held_with (effects_in ds) m) decided records;
+          stored = records;
           skew = sym (ap (λ (t : Server). t.skew) q.server);
           given = λ j. count_set given_at c.servers k small.server.me small.server.given small.server (q.me ∙ me) j
               ∙ sym (ap (λ (t : Server). count_with t.me t.given (λ i. given_at (slice_get c.servers i)) j) q.server);
@@ -129,10 +135,12 @@ module _ (skew greatest k : ℕ) (c : Cluster) (s : Server) (at : slice_get c.se
           replied = ap (λ (o : ServerOut). replies_after e o.admitted c.replied) q.out;
           ends = λ y. ends_after k e s small c at leaves there ones y
               ∙ ap (λ (o : ServerOut). world.with_sent o.send (world.without_taken e (ends_in c)) y) q.out;
-        }) decided records clock
+        }) decided clock
 
-    pub stands_after : AreDue k small.out.send (λ z. asked_server (without_question k e c.lines z).client.exchange)
+    pub stands_after : (HasNoPaths s → HasNoPaths small.server)
+        → AreDue k small.out.send (λ z. asked_server (without_question k e c.lines z).client.exchange)
         → WorldStands greatest made → ClusterHolds skew greatest after
-    stands_after due held =
-        all_stand after small.server refl q.skew clock (step_places k e s small big c at h.places q)
-        (step_keeps_led k e s small c at h.led leaves) (seen_after held) (sent_addressed k small.out.send (without_question k e c.lines) due (taken_addressed k e c.lines h.addressed))
+    stands_after none due held =
+        all_stand after small.server refl q.skew clock (step_places k e s small big c at h.places q) none
+        (step_keeps_led k e s small c at h.led leaves) (seen_after held)
+        (sent_addressed k small.out.send (without_question k e c.lines) due (taken_addressed k e c.lines h.addressed))

@@ -5,7 +5,6 @@ use Rattle.std.proofs.Common.{◌≡◌, ℕ, ◌≤◌, max, true, false, List,
 use Rattle.std.specs.Prelude.{◌≢◌, Option, Some, None, is_some, option_map, slice_get}
 use Rattle.fs_ident.specs.declared.actor.Session.{Session}
 use Rattle.fs_ident.specs.declared.kind.Kind.{Kind}
-use Rattle.fs_ident.proofs.Standing.{In-got}
 use Rattle.fs_field.specs.declared.asked.Need.{Need}
 use Rattle.fs_field.specs.declared.asked.Need.TheVariants as need
 use Rattle.fs_model.specs.declared.op.Op.{Op}
@@ -37,7 +36,7 @@ use Rattle.fs_serial.specs.Cluster.{replies_after, CanCome, ClientEvent, Cluster
 use Rattle.fs_serial.specs.Cluster.{after_server, after_server_at, first_cluster}
 use Rattle.fs_serial.specs.Fresh.{IsMade, made_by, made_in, or_else, root_kind}
 use Rattle.fs_serial.specs.Places.{IsHome, IsSent, PlacesHold}
-use Rattle.fs_serial.specs.Runs.{AtClient, AtServer, CanHappen, CanRun, ClusterEvent, Dated, IsOrderly, after_event, greatest_in, run}
+use Rattle.fs_serial.specs.Runs.{CanRun, Dated, IsOrderly, greatest_in, run}
 use Rattle.fs_serial.specs.Serial.{AreSound}
 use Rattle.fs_serial.specs.World.{pushed, told_by, with_told}
 use Rattle.fs_serial.specs.Seen.{ClusterHolds}
@@ -49,6 +48,7 @@ use Rattle.fs_serial.proofs.WholeRuns.ClusterClients.{some_server}
 use Rattle.fs_serial.proofs.Lists.Journals.{made_in-append, or_assoc, or_none}
 use Rattle.fs_serial.proofs.WholeRuns.ClusterRuns.{cluster_later}
 use Rattle.fs_serial.proofs.WholeRuns.ClusterSteps.{server_keeps}
+use Rattle.fs_serial.proofs.WholeRuns.EventsKeep.{EventsKeep, runs_keep}
 use Rattle.fs_serial.proofs.Replies.Read.{no_kind, plain_read, unmade_read}
 
 -- ## Items that make the same files
@@ -269,30 +269,25 @@ module _ (skew greatest : ℕ) (c : Cluster) (h : HoldsAnyhow skew greatest c) w
 
 -- ## Runs
 
-at_server : (skew greatest now k : ℕ) (e : ServerEvent) (c : Cluster) (o : Option Server) → slice_get c.servers k ≡ o
-    → HoldsAnyhow skew greatest c → IsThere k e c → HoldsAnyhow skew (max greatest now) (after_server now k e c)
-at_server skew greatest now k e c None at h there =
-    subst (λ (o : Option Server). HoldsAnyhow skew (max greatest now) (after_server_at o now k e c)) (sym at)
-    (anyhow_later skew greatest (max greatest now) c (omega arith) h)
-at_server skew greatest now k e c (Some s) at h there =
-    let clock : s.last ≤ greatest = (h.holds.parts s (In-got c.servers k s at)).0.clock in
-    server_anyhow skew (max greatest now) now k e s c at (omega arith) there
-    (anyhow_later skew greatest (max greatest now) c (omega arith) h)
-
-event_anyhow : (skew greatest now : ℕ) (e : ClusterEvent) (c : Cluster) → HoldsAnyhow skew greatest c → CanHappen e c
-    → HoldsAnyhow skew (max greatest now) (after_event now e c)
-event_anyhow skew greatest now (AtServer k e) c h can = at_server skew greatest now k e c (slice_get c.servers k) refl h can
-event_anyhow skew greatest now (AtClient by e) c h can = anyhow_later skew greatest (max greatest now)
-    (after_event now (AtClient by e) c) (omega arith) (client_anyhow skew greatest now c by h e can)
-
-run_anyhow : (skew greatest : ℕ) (es : List Dated) (c : Cluster) → HoldsAnyhow skew greatest c → CanRun es c
-    → HoldsAnyhow skew (greatest_in greatest es) (run es c)
-run_anyhow skew greatest [] c h r = h
-run_anyhow skew greatest (e ∷ es) c h r = run_anyhow skew (max greatest e.now) es (after_event e.now e.what c)
-    (event_anyhow skew greatest e.now e.what c h r.0) r.1
+-- every event comes in time
+abbrev anyhow_keep : ℕ → EventsKeep
+anyhow_keep skew = record {
+  Holds = HoldsAnyhow skew;
+  Within = λ greatest now. Unit {0};
+  later = anyhow_later skew;
+  clock = λ greatest s c i h. (h.holds.parts s i).0.clock;
+  server = λ greatest now k e s c at clock within there h.
+      server_anyhow skew (max greatest now) now k e s c at (omega (arith, clock)) there
+      (anyhow_later skew greatest (max greatest now) c (omega arith) h);
+  client = λ greatest now c by h e can within.
+      anyhow_later skew greatest (max greatest now) (after_client by now e c) (omega arith)
+      (client_anyhow skew greatest now c by h e can);
+  Comes = λ greatest es c. CanRun es c;
+  next = λ greatest e es c r. (r.0, tt, r.1);
+}
 
 pub all_orderly : (servers skew term : ℕ) (es : List Dated) → 1 ≤ servers → CanRun es (first_cluster servers skew term)
     → IsOrderly (run es (first_cluster servers skew term))
 all_orderly servers skew term es some r =
     anyhow_orderly skew (greatest_in 0 es) (run es (first_cluster servers skew term))
-    (run_anyhow skew 0 es (first_cluster servers skew term) (first_anyhow servers skew term 0 some) r)
+    (runs_keep (anyhow_keep skew) 0 es (first_cluster servers skew term) (first_anyhow servers skew term 0 some) r)

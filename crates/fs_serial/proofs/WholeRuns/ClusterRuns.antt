@@ -1,6 +1,6 @@
 -- Whatever happens, in whatever order, all parts hold, and the journal is one serial run.
-use Rattle.std.proofs.Common.{◌≡◌, ℕ, ◌+◌, ◌≤◌, max, true, List, [], ◌∷◌, ◌++◌, length, map, append-nil, refl, sym, subst, arith}
-use Rattle.std.specs.Prelude.{Option, Some, None, slice_get}
+use Rattle.std.proofs.Common.{◌≡◌, ℕ, ◌+◌, ◌≤◌, max, true, List, [], ◌∷◌, ◌++◌, length, map, append-nil, sym, subst, arith}
+use Rattle.std.specs.Prelude.{Some, None, slice_get}
 use Rattle.std.specs.List.{list_all}
 use Rattle.fs_ident.specs.In.{In}
 use Rattle.fs_ident.specs.declared.actor.Session.{Session}
@@ -16,20 +16,20 @@ use Rattle.fs_record.specs.Records.{nodes_of}
 use Rattle.fs_server.specs.Server.{begun, is_mine}
 use Rattle.fs_server.specs.Ships.{item_of}
 use Rattle.fs_server.specs.Step.{step}
-use Rattle.fs_server.specs.declared.event.ServerEvent.{ServerEvent}
 use Rattle.fs_server.specs.declared.event.ServerEvent.TheVariants.{FromClient}
 use Rattle.fs_server.specs.declared.state.Server.{Server}
-use Rattle.fs_serial.specs.Cluster.{Cluster, IsThere, after_server, after_server_at, first_cluster, is_with}
+use Rattle.fs_serial.specs.Cluster.{Cluster, IsThere, after_client, first_cluster, is_with}
 use Rattle.fs_serial.specs.Numbers.{AreNumbered, items_at, items_by}
 use Rattle.fs_serial.specs.Leading.{LedHolds}
 use Rattle.fs_serial.specs.Owed.{ends_in, taken_leads}
 use Rattle.fs_serial.specs.Refusals.{rows_in}
-use Rattle.fs_serial.specs.Runs.{AtClient, AtServer, CanHappen, ClusterEvent, Dated, IsOneSerialRun, IsRun, after_event, greatest_in, held_by, run}
+use Rattle.fs_serial.specs.Runs.{Dated, IsOneSerialRun, IsRun, greatest_in, held_by, run}
 use Rattle.fs_serial.specs.Seen.{ClusterHolds, counts_of, world_of}
 use Rattle.fs_serial.specs.Serial.{JournalSerial}
 use Rattle.fs_serial.specs.Sight.{seen}
 use Rattle.fs_serial.specs.Steps.{AllStand, AreRepliesFrom}
 use Rattle.fs_serial.specs.World.{WorldHolds, settled_at}
+use Rattle.fs_serial.proofs.DecidedEffects.StoredBeside.{all_seen}
 use Rattle.fs_serial.proofs.Admission.Admitted.{admitted_at_once}
 use Rattle.fs_serial.proofs.Admission.PendingRuns.{pending_from}
 use Rattle.fs_serial.proofs.DecidedEffects.HeldSeen.{held_same}
@@ -40,6 +40,7 @@ use Rattle.fs_serial.proofs.Transactions.ClientsStand.{client_stands}
 use Rattle.fs_serial.proofs.Transactions.FirstStands.{first_stands}
 use Rattle.fs_serial.proofs.WholeRuns.ClusterClients.{some_server}
 use Rattle.fs_serial.proofs.WholeRuns.ClusterSteps.{server_keeps}
+use Rattle.fs_serial.proofs.WholeRuns.EventsKeep.{EventsKeep, runs_keep}
 
 pub cluster_later : (skew greatest later : ℕ) (c : Cluster) → greatest ≤ later → ClusterHolds skew greatest c → ClusterHolds skew later c
 cluster_later skew greatest later c rises h = record {
@@ -48,6 +49,7 @@ cluster_later skew greatest later c rises h = record {
   addressed = h.addressed;
   places = h.places;
   led = h.led;
+  pathless = h.pathless;
 }
 
 -- ## What comes of it
@@ -80,7 +82,8 @@ pending_together skew greatest c by front rest s h there log over stand =
     let v = world_of s c in
     subst (λ m. AreRepliesFrom (nodes_of m) by front) (sym (held_same c h.led))
     (pending_from (counts_of c.servers) s.skew greatest c.replied by rest front (seen v.decided v.server) c.journal
-    (λ x. settled_at x (ends_in c x)) (h.parts s there).0.all log over stand)
+    (λ x. settled_at x (ends_in c x)) (all_seen v.decided v.server c.journal (h.parts s there).1.all (counts_of c.servers) s.skew greatest c.replied
+    (λ x. settled_at x (ends_in c x)) (h.parts s there).0.all) log over stand)
 
 -- all entries that come are plain, so that one whose rows stand is admitted when it comes
 pub admitted_always : (skew greatest now k : ℕ) (s : Server) (c : Cluster) (by : Session) (front rest : List Entry) (e : Entry)
@@ -98,29 +101,26 @@ admitted_always skew greatest now k s c by front rest e at there h mine stand =
 
 -- ## Runs
 
-at_server : (skew greatest now k : ℕ) (e : ServerEvent) (c : Cluster) (o : Option Server) → slice_get c.servers k ≡ o
-    → ClusterHolds skew greatest c → IsThere k e c → ClusterHolds skew (max greatest now) (after_server now k e c)
-at_server skew greatest now k e c None at h there =
-    subst (λ (o : Option Server). ClusterHolds skew (max greatest now) (after_server_at o now k e c)) (sym at)
-    (cluster_later skew greatest (max greatest now) c (omega arith) h)
-at_server skew greatest now k e c (Some s) at h there =
-    let clock : s.last ≤ greatest = (h.parts s (In-got c.servers k s at)).0.clock in
-    server_keeps skew (max greatest now) now k e s c at (omega arith) there
-    (cluster_later skew greatest (max greatest now) c (omega arith) h)
-
-pub event_keeps : (skew greatest now : ℕ) (e : ClusterEvent) (c : Cluster) → ClusterHolds skew greatest c → CanHappen e c
-    → greatest ≤ now + skew
-    → ClusterHolds skew (max greatest now) (after_event now e c)
-event_keeps skew greatest now (AtServer k e) c h can within = at_server skew greatest now k e c (slice_get c.servers k) refl h can
-event_keeps skew greatest now (AtClient by e) c h can within =
-    cluster_later skew greatest (max greatest now) (after_event now (AtClient by e) c) (omega arith)
-    (client_stands skew greatest c by h now e can within)
+-- an event comes in time where no reading before it is ahead of its own by more than the skew
+abbrev pub all_keep : ℕ → EventsKeep
+all_keep skew = record {
+  Holds = ClusterHolds skew;
+  Within = λ greatest now. greatest ≤ now + skew;
+  later = cluster_later skew;
+  clock = λ greatest s c i h. (h.parts s i).0.clock;
+  server = λ greatest now k e s c at clock within there h.
+      server_keeps skew (max greatest now) now k e s c at (omega (arith, clock)) there
+      (cluster_later skew greatest (max greatest now) c (omega arith) h);
+  client = λ greatest now c by h e can within.
+      cluster_later skew greatest (max greatest now) (after_client by now e c) (omega arith)
+      (client_stands skew greatest c by h now e can within);
+  Comes = IsRun skew;
+  next = λ greatest e es c r. r;
+}
 
 pub run_keeps : (skew greatest : ℕ) (es : List Dated) (c : Cluster) → ClusterHolds skew greatest c → IsRun skew greatest es c
     → ClusterHolds skew (greatest_in greatest es) (run es c)
-run_keeps skew greatest [] c h r = h
-run_keeps skew greatest (e ∷ es) c h r =
-    run_keeps skew (max greatest e.now) es (after_event e.now e.what c) (event_keeps skew greatest e.now e.what c h r.0 r.1) r.2
+run_keeps skew = runs_keep (all_keep skew)
 
 pub all_runs : (servers skew term : ℕ) (es : List Dated) → 1 ≤ servers → IsRun skew 0 es (first_cluster servers skew term)
     → IsOneSerialRun (run es (first_cluster servers skew term))

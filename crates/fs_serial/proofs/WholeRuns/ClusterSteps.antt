@@ -17,6 +17,7 @@ use Rattle.fs_server.proofs.Splitting.{commit_splits}
 use Rattle.fs_serial.specs.Cluster.{Cluster, IsThere, after_step}
 use Rattle.fs_serial.specs.Seen.{ClusterHolds}
 use Rattle.fs_serial.proofs.Transactions.OtherEvents.{other_event}
+use Rattle.fs_serial.proofs.Transactions.PlacesAfter.{names_there}
 use Rattle.fs_serial.proofs.WholeRuns.BegunEvents.{ServersKeepAll, all_events}
 use Rattle.fs_serial.proofs.WholeRuns.LedDones.{done_event}
 use Rattle.fs_serial.proofs.WholeRuns.LedEvents.{decide_event, prepare_event}
@@ -46,6 +47,7 @@ module _ (skew greatest k : ℕ) (c : Cluster) (s : Server) (at : slice_get c.se
   peer_keeps from (peer.Vote m) there = vote_event skew greatest k c s at h commit_splits from m there
   peer_keeps from (peer.Decide m) there = decide_event skew greatest k c s at h from m there
   peer_keeps from (peer.Done m) there = done_event skew greatest k c s at h from m there
+  peer_keeps from m there = absurd (names_there k from c m h.places there)
 
   step_keeps : (e : ServerEvent) → IsThere k e c → ClusterHolds skew greatest (after_step k e (event_step e s) c)
   step_keeps (event.FromClient by m) there = client_keeps by m there

@@ -9,7 +9,6 @@ use Rattle.fs_ident.specs.declared.actor.Session.{Session}
 use Rattle.fs_ident.specs.declared.actor.TxnNo.{TxnNo}
 use Rattle.fs_ident.proofs.Passing.{found}
 use Rattle.fs_field.specs.Table.{same_txn}
-use Rattle.fs_field.specs.declared.vote.Vote.{Vote}
 use Rattle.fs_field.specs.declared.vote.Vote.TheVariants as vote
 use Rattle.fs_record.specs.declared.led_end.LedEnd.{LedEnd}
 use Rattle.fs_record.specs.declared.led_end.LedEnd.TheVariants as led
@@ -36,7 +35,7 @@ use Rattle.fs_txn.specs.declared.leading.Ending.{Ending}
 use Rattle.fs_txn.specs.declared.leading.Leading.{Leading}
 use Rattle.fs_serial.specs.Cluster.{Cluster, after_step, with_items}
 use Rattle.fs_serial.specs.Conclusions.{TellsItems, after_concluded}
-use Rattle.fs_serial.specs.EndedLeases.{EndsFair, IsFairAbort}
+use Rattle.fs_serial.specs.EndedLeases.{EndsFair, IsFairAbort, asker_of, session_of_txn}
 use Rattle.fs_serial.specs.Locks.{at_home}
 use Rattle.fs_serial.specs.Seen.{ClusterHolds}
 use Rattle.fs_serial.proofs.DecidedEffects.DecisionSeen.{is_relock, relock, rows_are}
@@ -170,21 +169,24 @@ module _ (skew greatest k : ℕ) (c : Cluster) (s : Server) (at : slice_get c.se
 abbrev pub NamesNone : ServerNote → Type 0
 NamesNone n = (txn : TxnNo) (number : LeaseNo) (end now : ℕ) → n ≡ note.AbortsEnded txn number end now → ⊥
 
-pub noted_none : (c : Cluster) (n : ServerNote) → NamesNone n → IsFairAbort c n
-noted_none c n none txn number end now e = absurd (none txn number end now e)
+pub noted_none : (c : Cluster) (e : ServerEvent) (after : Cluster) (n : ServerNote) → NamesNone n → IsFairAbort c e after n
+noted_none c e after n none txn number end now is = absurd (none txn number end now is)
 
-end_noted : (c : Cluster) (txn : TxnNo) (by : Session) (e : LedEnd) → EndFair c by e → IsFairAbort c (end_note txn e)
-end_noted c txn by (led.Done r) right u number end now e = absurd (cc e)
-end_noted c txn by (led.Again w) right u number end now e = absurd (cc e)
-end_noted c txn by (led.Ended n u a) right t number end now e =
+-- where it is the transaction's own session, what is noted of its end is right
+end_noted : (c : Cluster) (e : ServerEvent) (after : Cluster) (txn : TxnNo) (by : Session) (z : LedEnd)
+    → session_of_txn c.servers (asker_of e) txn ≡ Some by → EndFair after by z → IsFairAbort c e after (end_note txn z)
+end_noted c e after txn by (led.Done r) own right t number end now is = absurd (cc is)
+end_noted c e after txn by (led.Again w) own right t number end now is = absurd (cc is)
+end_noted c e after txn by (led.Ended n u a) own right t number end now is =
+    let its : txn ≡ t = cc in
     let x : n ≡ number = cc in
     let y : u ≡ end = cc in
     let z : a ≡ now = cc in
-    (by, right number end now (cc (x, y, z)))
+    (by, ap (session_of_txn c.servers (asker_of e)) (sym its) ∙ own, right number end now (cc (x, y, z)))
 
 -- all that is told after the step, and what is noted, is right
 abbrev pub IsRightStep : ℕ → ServerEvent → Cluster → Stepped → Type 0
-IsRightStep k e c x = EndsFair (after_step k e x c) × IsFairAbort (after_step k e x c) x.out.note
+IsRightStep k e c x = EndsFair (after_step k e x c) × IsFairAbort c e (after_step k e x c) x.out.note
 
 -- it waits, and is decided then
 module _ (skew greatest k : ℕ) (c : Cluster) (s : Server) (at : slice_get c.servers k ≡ Some s) (e : ServerEvent) (tells : TellsItems e)
@@ -192,9 +194,10 @@ module _ (skew greatest k : ℕ) (c : Cluster) (s : Server) (at : slice_get c.se
   abbrev waiting : Server
   waiting = (waits n l sent t).server
 
-  pub goes_on_fair : NamesNone n → ClusterHolds skew greatest (behind skew greatest k c s at e tells splits n l sent t)
+  pub goes_on_fair : NamesNone n → session_of_txn c.servers (asker_of e) l.leader.txn ≡ Some l.leader.session
+      → ClusterHolds skew greatest (behind skew greatest k c s at e tells splits n l sent t)
       → EndsFair (behind skew greatest k c s at e tells splits n l sent t) → IsRightStep k e c (goes_on n l sent t)
-  goes_on_fair none h f = by (is_full l.leader.votes)
+  goes_on_fair none own h f = by (is_full l.leader.votes)
     where
       by : (b : Bool) → IsRightStep k e c (cond b (concludes l sent t) (waits n l sent t))
       by true =
@@ -202,9 +205,10 @@ module _ (skew greatest k : ℕ) (c : Cluster) (s : Server) (at : slice_get c.se
           let now : slice_get before.servers k ≡ Some waiting = get_here c.servers k s waiting at in
           let led : leading_of l.leader.txn waiting.leading ≡ Some l = leading_set l t.leading in
           let last : ServerNote = end_note l.leader.txn (end_of_decision (decision l.leader None)) in
-          subst (λ (d : Cluster). EndsFair d × IsFairAbort d last) (same_cluster skew greatest k c s at e tells splits n l sent t) (
+          subst (λ (d : Cluster). EndsFair d × IsFairAbort c e d last) (same_cluster skew greatest k c s at e tells splits n l sent t) (
             concluded_fair skew greatest k before waiting now h f l led,
-            end_noted (after_concluded k l waiting before) l.leader.txn l.leader.session (end_of_decision (decision l.leader None))
+            end_noted c e (after_concluded k l waiting before) l.leader.txn l.leader.session
+                (end_of_decision (decision l.leader None)) own
                 (end_right skew greatest k before waiting now h f l led),
           )
-      by false = (f, noted_none (after_step k e (waits n l sent t) c) n none)
+      by false = (f, noted_none c e (after_step k e (waits n l sent t) c) n none)

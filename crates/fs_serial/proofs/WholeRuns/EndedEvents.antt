@@ -14,7 +14,6 @@ use Rattle.fs_field.specs.declared.row.Row.{Row}
 use Rattle.fs_field.specs.declared.vote.Vote.{Vote}
 use Rattle.fs_field.specs.declared.vote.Vote.TheVariants as vote
 use Rattle.fs_record.specs.declared.led_end.LedEnd.{LedEnd}
-use Rattle.fs_record.specs.declared.led_end.LedEnd.TheVariants as led
 use Rattle.fs_msg.specs.declared.answer.Answer.TheVariants as answer
 use Rattle.fs_msg.specs.declared.client_msg.ClientMsg.{ClientMsg}
 use Rattle.fs_msg.specs.declared.client_msg.ClientMsg.TheVariants.{Ask, Renew, Release, Ship, Lead}
@@ -46,7 +45,7 @@ use Rattle.fs_txn.specs.declared.leading.Ending.{Ending}
 use Rattle.fs_txn.specs.declared.leading.Leading.{Leading}
 use Rattle.fs_txn.proofs.Keys.{txn_is}
 use Rattle.fs_serial.specs.Cluster.{Cluster, IsThere, after_step, in_flight_from, is_between, parcels_of, without_first}
-use Rattle.fs_serial.specs.EndedLeases.{EndsFair, IsFairAbort, WasEnded}
+use Rattle.fs_serial.specs.EndedLeases.{EndsFair, IsFairAbort, WasEnded, asker_of, session_led}
 use Rattle.fs_serial.specs.Leading.{IsLeading}
 use Rattle.fs_serial.specs.Seen.{ClusterHolds}
 use Rattle.fs_serial.specs.Words.{ended_in, key_of, leading_at, led_in}
@@ -58,7 +57,7 @@ use Rattle.fs_serial.proofs.Transactions.AwaitedWords.{prepare_awaited, prepare_
 use Rattle.fs_serial.proofs.Transactions.Desks.{each_after, led_set}
 use Rattle.fs_serial.proofs.Transactions.OtherSteps.{begins_stands}
 use Rattle.fs_serial.proofs.Transactions.OwnersOfLocks.{in_range}
-use Rattle.fs_serial.proofs.Transactions.PlacesAfter.{AreRelocked, relocked_not, unlocked_so, unlocked_unless, word_taken}
+use Rattle.fs_serial.proofs.Transactions.PlacesAfter.{AreRelocked, relocked_not, unlocked_so, unlocked_unless, word_taken, names_there}
 use Rattle.fs_serial.proofs.Transactions.Tables.{in_with_ending}
 use Rattle.fs_serial.proofs.Transactions.Undecided.{up_led}
 use Rattle.fs_serial.proofs.WholeRuns.EndedDecisions.{IsRightStep, noted_none}
@@ -177,7 +176,7 @@ module _ (skew greatest k : ℕ) (c : Cluster) (s : Server) (at : slice_get c.se
 
     pub prepared_fair : IsRightStep k asks c (prepare_step from m s)
     prepared_fair = subst (IsRightStep k asks c) (sym (prepare_awaited k from c s at h.led m comes))
-        (voted_fair_then, noted_none then x.out.note (λ txn number end now e. absurd (cc e)))
+        (voted_fair_then, noted_none c asks then x.out.note (λ txn number end now e. absurd (cc e)))
 
   -- ## A decision
 
@@ -218,7 +217,7 @@ module _ (skew greatest k : ℕ) (c : Cluster) (s : Server) (at : slice_get c.se
 
     pub decided_fair : IsRightStep k deciding c (decide_step from m s)
     decided_fair = subst (IsRightStep k deciding c) (sym (decide_awaited k from c s at h.led m comes))
-        (applied_fair, noted_none (after_step k deciding applied c) applied.out.note (λ txn number end now e. absurd (cc e)))
+        (applied_fair, noted_none c deciding (after_step k deciding applied c) applied.out.note (λ txn number end now e. absurd (cc e)))
 
   -- ## A part is done
 
@@ -281,7 +280,7 @@ module _ (skew greatest k : ℕ) (c : Cluster) (s : Server) (at : slice_get c.se
       done_right (note.Ends y.txn) (rows_unlocked y.txn s.rows) (unlocked_so y.txn s.rows)
           (to_session y.session (answer.Led y.end) ∷ []) refl
           (answer_votes y.session (answer.Led y.end)) told_it,
-      noted_none (after_step k doing (done_with left [] s) c) (note.Ends y.txn) (λ txn number end now e. absurd (cc e)),
+      noted_none c doing (after_step k doing (done_with left [] s) c) (note.Ends y.txn) (λ txn number end now e. absurd (cc e)),
     )
       where
         told_it : (to : Session) (z : LedEnd)
@@ -295,7 +294,7 @@ module _ (skew greatest k : ℕ) (c : Cluster) (s : Server) (at : slice_get c.se
         told_it to z (inr i) = absurd i
     by_awaits (n ∷ ns) = (
       done_right (note.Waits y.txn) s.rows (relocked_not s.rows) [] refl (λ to v z. z) (λ to z i. absurd i),
-      noted_none (after_step k doing (done_with left (n ∷ ns) s) c) (note.Waits y.txn) (λ txn number end now e. absurd (cc e)),
+      noted_none c doing (after_step k doing (done_with left (n ∷ ns) s) c) (note.Waits y.txn) (λ txn number end now e. absurd (cc e)),
     )
 
     pub done_fair : IsRightStep k doing c (done_step m s)
@@ -326,6 +325,7 @@ module _ (skew greatest k : ℕ) (c : Cluster) (s : Server) (at : slice_get c.se
     peer_fair from (peer.Vote m) there = voted_fair skew greatest k c s at h f commit_splits within from m there
     peer_fair from (peer.Decide m) there = decided_fair from m there
     peer_fair from (peer.Done m) there = done_fair from m there
+    peer_fair from m there = absurd (names_there k from c m h.places there)
 
     pub begun_event_fair : (e : ServerEvent) → IsThere k e c → IsRightStep k e c (event_step e s)
     begun_event_fair (event.FromClient by m) there = client_fair by m there
@@ -366,9 +366,15 @@ pub server_keeps_fair : (skew greatest now k : ℕ) (e : ServerEvent) (s : Serve
 server_keeps_fair skew greatest now k e s c at before within there h f =
     let then : Cluster = begun_at now k s c in
     let after : Cluster = after_step k e (step s now e) c in
-    subst (λ (ss : List Server).
-    EndsFair (record after { servers = ss }) × IsFairAbort (record after { servers = ss }) (step s now e).out.note)
+    let right = subst (λ (ss : List Server).
+    EndsFair (record after { servers = ss }) × IsFairAbort then e (record after { servers = ss }) (step s now e).out.note)
     (set_twice c.servers k (begun now s) (step s now e).server)
     (begun_event_fair skew greatest k then (begun now s) (get_here c.servers k s (begun now s) at)
     (begins_stands skew greatest now k s c at before h) (begins_fair skew greatest now k s c at before h f) within e
-    (there_begun now k s e c there))
+    (there_begun now k s e c there)) in (
+      right.0,
+      λ txn number end reading is.
+          let q = right.1 txn number end reading is in
+          let own = ap (λ o. session_led o (asker_of e)) (led_set c.servers k s (begun now s) at refl txn) in
+          (q.0, sym own ∙ q.1, q.2),
+    )

@@ -11,6 +11,7 @@ use Rattle.fs_ident.specs.declared.actor.TxnNo.{TxnNo}
 use Rattle.fs_ident.proofs.Passing.{found}
 use Rattle.fs_ident.proofs.Same.{itself}
 use Rattle.fs_ident.proofs.Standing.{In-append, In-got}
+use Rattle.fs_field.specs.Table.{same_txn}
 use Rattle.fs_field.specs.declared.used.Part.{Part}
 use Rattle.fs_field.specs.declared.vote.Vote.{Vote}
 use Rattle.fs_field.specs.declared.vote.Vote.TheVariants as vote
@@ -30,7 +31,6 @@ use Rattle.fs_msg.specs.declared.prepare.Prepare.{Prepare as PrepareMsg}
 use Rattle.fs_msg.specs.declared.server_note.ServerNote.{ServerNote}
 use Rattle.fs_msg.specs.declared.server_note.ServerNote.TheVariants as note
 use Rattle.fs_msg.specs.declared.voted.Voted.{Voted as VotedMsg}
-use Rattle.fs_client.specs.declared.led.Led.{Led}
 use Rattle.fs_server.specs.Begins.{Round, first_round, leader_with, parts_in, round_of, rounds, txn_of}
 use Rattle.fs_server.specs.Concludes.{waits}
 use Rattle.fs_server.specs.Counts.{after_own_vote, ask_for, asked_at, comes_home, counts, counts_own, seeks, sent_on, vote_step, voted}
@@ -45,8 +45,9 @@ use Rattle.fs_server.specs.declared.state.Server.{Server}
 use Rattle.fs_txn.specs.Leading.{leading_of}
 use Rattle.fs_txn.specs.Votes.{Votes, is_moved, votes_after}
 use Rattle.fs_txn.specs.declared.leading.Leading.{Leading}
+use Rattle.fs_txn.proofs.Keys.{txn_is}
 use Rattle.fs_serial.specs.Cluster.{Cluster, InFlight, IsThere, after_step, in_flight_from, is_between, parcels_of, without_arrived}
-use Rattle.fs_serial.specs.EndedLeases.{EndsFair, WasEnded}
+use Rattle.fs_serial.specs.EndedLeases.{EndsFair, WasEnded, asker_of, session_led, session_of_txn}
 use Rattle.fs_serial.specs.Exchange.{IsToBeLed}
 use Rattle.fs_serial.specs.Leading.{IsLeading}
 use Rattle.fs_serial.specs.Owed.{ends_in}
@@ -216,6 +217,21 @@ module _ (skew greatest k : ℕ) (c : Cluster) (s : Server) (at : slice_get c.se
               absurd (omega (arith, few, count));
         }
 
+    -- no transaction of its number is led before, so it is of the session that asks
+    begun_own : session_of_txn c.servers (asker_of asking) (txn_of s) ≡ Some by
+    begun_own = of_led (led_in c.servers (txn_of s)) refl
+      where
+        its : led_in c.servers (txn_of s) ≡ leading_of (txn_of s) s.leading
+        its = ap (λ o. leading_of (txn_of s) (leading_at o)) (ap (slice_get c.servers) (h.places.numbered k s at) ∙ at)
+
+        of_led : (o : Option Leading) → led_in c.servers (txn_of s) ≡ o → session_led o (Some by) ≡ Some by
+        of_led None is = refl
+        of_led (Some o) is =
+            let q = found (λ (z : Leading). same_txn z.leader.txn (txn_of s)) s.leading o (sym its ∙ is) in
+            let few = (h.led.leading s here o q.0).begun in
+            let count : o.leader.txn.count ≡ s.txns + 1 = ap (λ (u : TxnNo). u.count) (txn_is o.leader.txn (txn_of s) q.1) in
+            absurd (omega (arith, few, count))
+
     refused : (w : Why) → IsRightStep k asking c (refuses by w s)
     refused w =
         let x : Stepped = refuses by w s in
@@ -237,7 +253,7 @@ module _ (skew greatest k : ℕ) (c : Cluster) (s : Server) (at : slice_get c.se
               | inr y ↦ absurd y
             ];
           }),
-          noted_none (after_step k asking x c) x.out.note (λ txn number end now e. absurd (cc e)),
+          noted_none c asking (after_step k asking x c) x.out.note (λ txn number end now e. absurd (cc e)),
         )
 
     pub lead_fair : IsRightStep k asking c (leads_unless (lead_refusal s m) by m s)
@@ -246,7 +262,7 @@ module _ (skew greatest k : ℕ) (c : Cluster) (s : Server) (at : slice_get c.se
         by_refusal : (o : Option Why) → lead_refusal s m ≡ o → IsRightStep k asking c (leads_unless o by m s)
         by_refusal None accepted =
             goes_on_fair skew greatest k c s at asking (λ items replied. refl) splits (note.Prepares (txn_of s)) begins r.send r.server
-            (λ txn number end now e. absurd (cc e)) (begun skew greatest k c s at h splits by m comes accepted)
+            (λ txn number end now e. absurd (cc e)) begun_own (begun skew greatest k c s at h splits by m comes accepted)
             (waits_fair asking (note.Prepares (txn_of s)) begins r.send r.server begun_waits)
         by_refusal (Some w) why = refused w
 
@@ -273,6 +289,13 @@ module _ (skew greatest k : ℕ) (c : Cluster) (s : Server) (at : slice_get c.se
     its_led =
         let place : k ≡ m.txn.server = (vote_here_is k from c s at h.led m comes).leader in
         ap (λ o. leading_of m.txn (leading_at o)) (was_at c.servers k s s at m.txn.server (ap (λ j. j == k) (sym place) ∙ itself k)) ∙ a.led
+
+    -- the leader's table has it for its session
+    voted_own : session_of_txn c.servers None l.leader.txn ≡ Some l.leader.session
+    voted_own =
+        let same : l.leader.txn ≡ m.txn =
+        txn_is l.leader.txn m.txn (found (λ (z : Leading). same_txn z.leader.txn m.txn) s.leading l a.led).1 in
+        ap (session_of_txn c.servers None) same ∙ ap (λ o. session_led o None) its_led
 
     -- it waits with these votes
     only_waits : (n : ServerNote) (votes : Votes) (places : List ℕ) (ms : List (Peer × Msg)) (t : Server) → AreRelocked s.rows t.rows
@@ -308,7 +331,7 @@ module _ (skew greatest k : ℕ) (c : Cluster) (s : Server) (at : slice_get c.se
     counted stays =
         goes_on_fair skew greatest k c s at voting (λ items replied. refl) splits (note.Waits l.leader.txn)
         (with_vote m.number m.vote l) [] s
-        (λ txn number end now e. absurd (cc e)) (counted_waits skew greatest k c s at h splits from m comes stays)
+        (λ txn number end now e. absurd (cc e)) voted_own (counted_waits skew greatest k c s at h splits from m comes stays)
         (only_waits (note.Waits l.leader.txn) (votes_after l.leader.votes m.number m.vote) l.at [] s (relocked_not s.rows)
         refl refl refl refl
         (λ x z. absurd z)
@@ -321,7 +344,8 @@ module _ (skew greatest k : ℕ) (c : Cluster) (s : Server) (at : slice_get c.se
         only_waits (note.Seeks l.leader.txn to) l.leader.votes (slice_set l.at m.number to)
             (to_server to (ask_for l.leader.txn m.number l.leader.session p) ∷ []) s (relocked_not s.rows) refl refl refl refl
             (one_ask l.leader.txn m.number l.leader.session p to) old_votes,
-        noted_none (after_step k voting (seeks m.number to p l s) c) (note.Seeks l.leader.txn to) (λ txn number end now e. absurd (cc e)),
+        noted_none c voting (after_step k voting (seeks m.number to p l s) c) (note.Seeks l.leader.txn to)
+            (λ txn number end now e. absurd (cc e)),
       )
 
       abbrev own_vote : Vote
@@ -337,7 +361,7 @@ module _ (skew greatest k : ℕ) (c : Cluster) (s : Server) (at : slice_get c.se
       own mine =
           goes_on_fair skew greatest k c s at voting (λ items replied. refl) splits (note.Waits l.leader.txn)
           (with_vote m.number own_vote (asked_at m.number s.me l)) [] (after_own_vote l.leader.txn p own_vote s)
-          (λ txn number end now e. absurd (cc e)) (own_waits skew greatest k c s at h splits from m comes p part moved mine)
+          (λ txn number end now e. absurd (cc e)) voted_own (own_waits skew greatest k c s at h splits from m comes p part moved mine)
           (only_waits (note.Waits l.leader.txn) (votes_after l.leader.votes m.number own_vote) (slice_set l.at m.number s.me) []
           (after_own_vote l.leader.txn p own_vote s) (voted_so own_vote l.leader.txn p.uses s.rows) refl refl refl refl (λ x z. absurd z)
           (one_more own_vote own_right))

@@ -17,9 +17,9 @@ use Rattle.fs_msg.specs.declared.msg.Msg.{Msg}
 use Rattle.fs_msg.specs.declared.msg.Msg.TheVariants as msg
 use Rattle.fs_msg.specs.declared.peer_msg.PeerMsg.{PeerMsg}
 use Rattle.fs_msg.specs.declared.peer_msg.PeerMsg.TheVariants as peer
+use Rattle.fs_msg.specs.declared.server_note.ServerNote.{ServerNote}
 use Rattle.fs_msg.specs.declared.server_note.ServerNote.TheVariants as note
 use Rattle.fs_msg.specs.declared.voted.Voted.{Voted as VotedMsg}
-use Rattle.fs_parcel.specs.Parcel.{move_refusal}
 use Rattle.fs_parcel.specs.declared.error.MoveError.{MoveError}
 use Rattle.fs_record.specs.Effects.{tells_its_effects}
 use Rattle.fs_record.specs.declared.led_end.LedEnd.{LedEnd}
@@ -37,6 +37,7 @@ use Rattle.fs_server.specs.declared.state.Server.{Server}
 use Rattle.fs_server.proofs.OneByOne.{reaps_leave}
 use Rattle.fs_txn.specs.Stages.{Told}
 use Rattle.fs_txn.specs.Stages.Word.{Voted}
+use Rattle.fs_serial.proofs.Transactions.PlacesAfter.{names_there}
 use Rattle.fs_serial.specs.Cluster.{Cluster, InFlight, IsThere, after_step, in_flight_from, is_with}
 use Rattle.fs_serial.specs.EndedLeases.{EndsFair}
 use Rattle.fs_serial.specs.Leading.{LeavesLed}
@@ -51,6 +52,7 @@ use Rattle.fs_serial.proofs.Lists.SetAt.{get_here}
 use Rattle.fs_serial.proofs.Lists.Traffic.{messages}
 use Rattle.fs_serial.proofs.Moves.Arriving.{arriving_same}
 use Rattle.fs_serial.proofs.Moves.Leaving.{move_same}
+use Rattle.fs_serial.proofs.Moves.PathSteps.{ArePathSends, IsPathNote, each_message, refusal_here, refused, sent_path}
 use Rattle.fs_serial.proofs.OneServer.SameStep.{IsSameStep, begun_in, turn_same}
 use Rattle.fs_serial.proofs.OneServer.ServerSame.{asked_same, ships_same}
 use Rattle.fs_serial.proofs.OtherSessions.Older.{IsLater, later_itself}
@@ -112,12 +114,17 @@ parcel_free : (b : Bool) (p : Parcel) (s : Server) (to : Session) (e : LedEnd) �
 parcel_free true p s to e i = i
 parcel_free false p s to e i = i
 
+paths_free : (ms : List (Peer × Msg)) → ArePathSends ms → (to : Session) (e : LedEnd) → TellsEnd to e ms → ⊥
+paths_free ms sent to e = sent_path ms sent (OfSession to, msg.Answer (answer.Led e))
+
 move_free : (o : Option MoveError) (prefix : List ℕ) (at : ℕ) (s : Server) (to : Session) (e : LedEnd)
     → TellsEnd to e (move_at o prefix at s).out.send → ⊥
 move_free None prefix at s to e (inl q) =
     let same : OfSession to ≡ OfServer at = ap (λ (p : Peer × Msg). p.0) q in absurd (cc same)
 move_free None prefix at s to e (inr z) = z
-move_free (Some why) prefix at s to e i = i
+move_free (Some why) prefix at s to e i =
+    refused (λ (x : Stepped). TellsEnd to e x.out.send → ⊥) s (λ n ms paths asking given noted sent. paths_free ms sent to e)
+    why prefix at i
 
 event_free : (x : ServerEvent) (s : Server) → IsNoneOfLed x → (to : Session) (e : LedEnd) → TellsEnd to e (event_step x s).out.send → ⊥
 event_free (event.FromClient by m) s none to e i = message_free by m s none to e i
@@ -126,9 +133,12 @@ event_free (event.FromPeer from (peer.Prepare m)) s none to e i = absurd (cc non
 event_free (event.FromPeer from (peer.Vote m)) s none to e i = absurd (cc none)
 event_free (event.FromPeer from (peer.Decide m)) s none to e i = absurd (cc none)
 event_free (event.FromPeer from (peer.Done m)) s none to e i = absurd (cc none)
+event_free (event.FromPeer from m) s none to e i =
+    each_message (λ (x : Stepped). TellsEnd to e x.out.send → ⊥) s (λ n ms paths asking given noted sent. paths_free ms sent to e)
+    from m tt i
 event_free event.Turn s none to e i = turn_free (lapsed_in s) s to e i
 event_free (event.Recall field) s none to e i = recalls_free (recalls_of (recalled_on field s)) (recall_all (recalled_on field s)) to e i
-event_free (event.Move prefix at) s none to e i = move_free (move_refusal s.records s.rows s.map s.me prefix at None) prefix at s to e i
+event_free (event.Move prefix at) s none to e i = move_free (refusal_here prefix at s) prefix at s to e i
 
 -- ## What is noted
 
@@ -145,9 +155,13 @@ parcel_noted : (b : Bool) (p : Parcel) (s : Server) → NamesNone (parcel_at b p
 parcel_noted true p s txn number end now e = absurd (cc e)
 parcel_noted false p s txn number end now e = absurd (cc e)
 
+path_noted : (n : ServerNote) → IsPathNote n → NamesNone n
+path_noted n noted txn number end now e = subst IsPathNote e noted
+
 move_noted : (o : Option MoveError) (prefix : List ℕ) (to : ℕ) (s : Server) → NamesNone (move_at o prefix to s).out.note
-move_noted None prefix to s txn number end now e = absurd (cc e)
-move_noted (Some why) prefix to s txn number end now e = absurd (cc e)
+move_noted None prefix to s = λ txn number end now e. absurd (cc e)
+move_noted (Some why) prefix to s =
+    refused (λ (x : Stepped). NamesNone x.out.note) s (λ n ms paths asking given noted sent. path_noted n noted) why prefix to
 
 event_noted : (x : ServerEvent) (s : Server) → IsNoneOfLed x → NamesNone (event_step x s).out.note
 event_noted (event.FromClient by (Ask items dir)) s none txn number end now e = absurd (cc e)
@@ -161,10 +175,13 @@ event_noted (event.FromPeer from (peer.Prepare m)) s none txn number end now e =
 event_noted (event.FromPeer from (peer.Vote m)) s none txn number end now e = absurd (cc none)
 event_noted (event.FromPeer from (peer.Decide m)) s none txn number end now e = absurd (cc none)
 event_noted (event.FromPeer from (peer.Done m)) s none txn number end now e = absurd (cc none)
+event_noted (event.FromPeer from m) s none txn number end now e =
+    each_message (λ (x : Stepped). NamesNone x.out.note) s (λ n ms paths asking given noted sent. path_noted n noted) from m tt
+    txn number end now e
 event_noted event.Turn s none txn number end now e = turn_noted (lapsed_in s) s txn number end now e
 event_noted (event.Recall field) s none txn number end now e = absurd (cc e)
 event_noted (event.Move prefix to) s none txn number end now e =
-    move_noted (move_refusal s.records s.rows s.map s.me prefix to None) prefix to s txn number end now e
+    move_noted (refusal_here prefix to s) prefix to s txn number end now e
 
 -- ## Words
 
@@ -220,7 +237,8 @@ turn_later o (x ∷ xs) t = later_reaped o t (reap_from (x ∷ xs) t [] []).serv
 
 move_given : (o : Option MoveError) (prefix : List ℕ) (to : ℕ) (s : Server) → (move_at o prefix to s).server.given ≡ s.given
 move_given None prefix to s = refl
-move_given (Some why) prefix to s = refl
+move_given (Some why) prefix to s =
+    refused (λ (x : Stepped). x.server.given ≡ s.given) s (λ n ms paths asking given noted sent. refl) why prefix to
 
 module _ (skew greatest k : ℕ) (c : Cluster) (s : Server) (at : slice_get c.servers k ≡ Some s) (h : ClusterHolds skew greatest c) where
   me : s.me ≡ k
@@ -259,7 +277,7 @@ module _ (skew greatest k : ℕ) (c : Cluster) (s : Server) (at : slice_get c.se
       let coming : In m (ends_in c by).up = In-front m (messages (c.lines by).up) (taken_leads by (c.lines by).client.led c.servers)
       (In-mapped (λ (n : ℕ × ClientMsg). n.1) (k, m) (c.lines by).up (found (is_with k) (c.lines by).up (k, m) there).0) in
       seen_later e (event_step e s) (event_step e (with_all s c))
-      (begun_in greatest k c s e at h.places (decided_in c) (ends_in c) w.0 w.1 coming other (λ z. absurd (cc)))
+      (begun_in greatest k c s e at h.places (decided_in c) (ends_in c) w.0 coming other (λ z. absurd (cc)))
       (message_later (counts_of c.servers) by m (with_all s c) other)
 
   rises : (t : Server) → t.given ≡ s.given → (j : ℕ)
@@ -280,7 +298,7 @@ module _ (skew greatest k : ℕ) (c : Cluster) (s : Server) (at : slice_get c.se
   move_later prefix to =
       let e : ServerEvent = event.Move prefix to in
       same_later c (after_step k e (event_step e s) c) (move_same k c s prefix to at h.places).0
-      (rises (event_step e s).server (move_given (move_refusal s.records s.rows s.map s.me prefix to None) prefix to s))
+      (rises (event_step e s).server (move_given (refusal_here prefix to s) prefix to s))
 
   pub other_later : (e : ServerEvent) → IsThere k e c → IsNoneOfLed e → RowsLater c (after_step k e (event_step e s) c)
   other_later (event.FromClient by (Ask items dir)) there none = asked_later by (Ask items dir) there tt
@@ -293,6 +311,7 @@ module _ (skew greatest k : ℕ) (c : Cluster) (s : Server) (at : slice_get c.se
   other_later (event.FromPeer from (peer.Vote m)) there none = absurd (cc none)
   other_later (event.FromPeer from (peer.Decide m)) there none = absurd (cc none)
   other_later (event.FromPeer from (peer.Done m)) there none = absurd (cc none)
+  other_later (event.FromPeer from m) there none = absurd (names_there k from c m h.places there)
   other_later event.Turn there none =
       seen_later event.Turn (turn_step s) (turn_over (lapsed_in s) (with_all s c)) (turn_same k c s at h.places)
       (turn_later (counts_of c.servers) (lapsed_in s) (with_all s c))
@@ -300,7 +319,7 @@ module _ (skew greatest k : ℕ) (c : Cluster) (s : Server) (at : slice_get c.se
       let e : ServerEvent = event.Recall field in
       let w = view skew greatest k c s at h in
       seen_later e (event_step e s) (event_step e (with_all s c))
-      (begun_in greatest k c s e at h.places (decided_in c) (ends_in c) w.0 w.1 tt tt (λ z. absurd (cc)))
+      (begun_in greatest k c s e at h.places (decided_in c) (ends_in c) w.0 tt tt (λ z. absurd (cc)))
       (later_itself (given_by (counts_of c.servers) (with_all s c)) (with_all s c).rows)
   other_later (event.Move prefix to) there none = move_later prefix to
 
@@ -317,5 +336,5 @@ module _ (skew greatest k : ℕ) (c : Cluster) (s : Server) (at : slice_get c.se
           votes = λ to m i. absurd (vote_told k x.out.send leaves.words to m i);
           answers = λ to z i. absurd (event_free e s none to z i);
         }),
-        noted_none (after_step k e x c) x.out.note (event_noted e s none),
+        noted_none c e (after_step k e x c) x.out.note (event_noted e s none),
       )

@@ -1,11 +1,11 @@
 -- Over whole runs, whatever is told of a lease that it had ended is right.
-use Rattle.std.proofs.Common.{◌≡◌, ◌≤◌, ◌+◌, ℕ, zero, suc, max, List, [], ◌∷◌, refl, sym, ap, subst, inl, inr, arith}
-use Rattle.std.specs.Prelude.{Option, Some, None, slice_get}
+use Rattle.std.proofs.Common.{◌≡◌, ◌≤◌, ◌+◌, ℕ, zero, suc, max, List, [], ◌∷◌, sym, ap, subst, inl, inr, arith}
+use Rattle.std.specs.Prelude.{Option, Some, slice_get}
 use Rattle.fs_ident.specs.In.{In}
 use Rattle.fs_ident.specs.declared.actor.LeaseNo.{LeaseNo}
 use Rattle.fs_ident.specs.declared.actor.Session.{Session}
 use Rattle.fs_ident.proofs.Passing.{found}
-use Rattle.fs_ident.proofs.Standing.{In-append, In-got}
+use Rattle.fs_ident.proofs.Standing.{In-append}
 use Rattle.fs_record.specs.declared.led_end.LedEnd.TheVariants as led
 use Rattle.fs_msg.specs.declared.answer.Answer.TheVariants as answer
 use Rattle.fs_server.specs.Server.{first_server}
@@ -15,22 +15,23 @@ use Rattle.fs_server.specs.declared.state.Server.{Server}
 use Rattle.fs_serial.specs.Cluster.{CanCome, Cluster, IsThere, after_server, after_server_at, first_cluster, first_servers, is_with}
 use Rattle.fs_serial.specs.Cluster.ClientEvent.{Hears}
 use Rattle.fs_serial.specs.EndedLeases.{EndsFair, IsFairAbort, WasEnded}
-use Rattle.fs_serial.specs.Runs.{AtClient, AtServer, CanHappen, ClusterEvent, Dated, IsRun, after_event, run}
+use Rattle.fs_serial.specs.Runs.{Dated, IsRun, run}
 use Rattle.fs_serial.specs.Seen.{ClusterHolds}
 use Rattle.fs_serial.proofs.Transactions.FirstStands.{first_stands}
-use Rattle.fs_serial.proofs.WholeRuns.ClusterRuns.{cluster_later, event_keeps}
+use Rattle.fs_serial.proofs.WholeRuns.ClusterRuns.{all_keep}
 use Rattle.fs_serial.proofs.WholeRuns.EndedClients.{client_keeps_fair}
 use Rattle.fs_serial.proofs.WholeRuns.EndedEvents.{server_keeps_fair}
+use Rattle.fs_serial.proofs.WholeRuns.EventsKeep.{EventsKeep, runs_keep}
 
 -- ## Each event
 
 -- what is told stays right, and so is what is noted
 server_right : (skew greatest now k : ℕ) (e : ServerEvent) (s : Server) (c : Cluster) → slice_get c.servers k ≡ Some s
     → max s.last now ≤ greatest → greatest ≤ max s.last now + skew → IsThere k e c → ClusterHolds skew greatest c → EndsFair c
-    → EndsFair (after_server now k e c) × IsFairAbort (after_server now k e c) (step s now e).out.note
+    → EndsFair (after_server now k e c) × IsFairAbort c e (after_server now k e c) (step s now e).out.note
 server_right skew greatest now k e s c at before within there h f =
     subst (λ (o : Option Server).
-    EndsFair (after_server_at o now k e c) × IsFairAbort (after_server_at o now k e c) (step s now e).out.note)
+    EndsFair (after_server_at o now k e c) × IsFairAbort c e (after_server_at o now k e c) (step s now e).out.note)
     (sym at) (server_keeps_fair skew greatest now k e s c at before within there h f)
 
 pub server_fair : (skew greatest now k : ℕ) (e : ServerEvent) (s : Server) (c : Cluster) → slice_get c.servers k ≡ Some s
@@ -40,7 +41,7 @@ server_fair skew greatest now k e s c at before within there h f = (server_right
 
 pub noted_fair : (skew greatest now k : ℕ) (e : ServerEvent) (s : Server) (c : Cluster) → slice_get c.servers k ≡ Some s
     → max s.last now ≤ greatest → greatest ≤ max s.last now + skew → IsThere k e c → ClusterHolds skew greatest c → EndsFair c
-    → IsFairAbort (after_server now k e c) (step s now e).out.note
+    → IsFairAbort c e (after_server now k e c) (step s now e).out.note
 noted_fair skew greatest now k e s c at before within there h f = (server_right skew greatest now k e s c at before within there h f).1
 
 -- what a client hears is right
@@ -69,27 +70,29 @@ first_fair servers skew term = record {
   told = λ by k number end now i. absurd i;
 }
 
-at_server : (skew greatest now k : ℕ) (e : ServerEvent) (c : Cluster) (o : Option Server) → slice_get c.servers k ≡ o
-    → ClusterHolds skew greatest c → EndsFair c → IsThere k e c → greatest ≤ now + skew → EndsFair (after_server now k e c)
-at_server skew greatest now k e c None at h f there within =
-    subst (λ (o : Option Server). EndsFair (after_server_at o now k e c)) (sym at) f
-at_server skew greatest now k e c (Some s) at h f there within =
-    let clock : s.last ≤ greatest = (h.parts s (In-got c.servers k s at)).0.clock in
-    server_fair skew (max greatest now) now k e s c at (omega arith) (omega arith) there
-    (cluster_later skew greatest (max greatest now) c (omega arith) h) f
-
-event_right : (skew greatest now : ℕ) (e : ClusterEvent) (c : Cluster) → ClusterHolds skew greatest c → EndsFair c → CanHappen e c
-    → greatest ≤ now + skew → EndsFair (after_event now e c)
-event_right skew greatest now (AtServer k e) c h f can within =
-    at_server skew greatest now k e c (slice_get c.servers k) refl h f can within
-event_right skew greatest now (AtClient by e) c h f can within = client_keeps_fair skew greatest now c by h f e can
+-- with all that holds
+abbrev fair_keep : ℕ → EventsKeep
+fair_keep skew =
+    let all : EventsKeep = all_keep skew in
+    record {
+      Holds = λ greatest c. ClusterHolds skew greatest c × EndsFair c;
+      Within = all.Within;
+      later = λ greatest later c rises h. (all.later greatest later c rises h.0, h.1);
+      clock = λ greatest s c i h. all.clock greatest s c i h.0;
+      server = λ greatest now k e s c at clock within there h. (
+        all.server greatest now k e s c at clock within there h.0,
+        server_fair skew (max greatest now) now k e s c at (omega (arith, clock)) (omega (arith, within)) there
+            (all.later greatest (max greatest now) c (omega arith) h.0) h.1,
+      );
+      client = λ greatest now c by h e can within.
+          (all.client greatest now c by h.0 e can within, client_keeps_fair skew greatest now c by h.0 h.1 e can);
+      Comes = all.Comes;
+      next = all.next;
+    }
 
 pub run_fair : (skew greatest : ℕ) (es : List Dated) (c : Cluster) → ClusterHolds skew greatest c → EndsFair c → IsRun skew greatest es c
     → EndsFair (run es c)
-run_fair skew greatest [] c h f r = f
-run_fair skew greatest (e ∷ es) c h f r =
-    run_fair skew (max greatest e.now) es (after_event e.now e.what c) (event_keeps skew greatest e.now e.what c h r.0 r.1)
-    (event_right skew greatest e.now e.what c h f r.0 r.1) r.2
+run_fair skew greatest es c h f r = (runs_keep (fair_keep skew) greatest es c (h, f) r).1
 
 -- from the start on
 pub all_fair : (servers skew term : ℕ) (es : List Dated) → 1 ≤ servers → IsRun skew 0 es (first_cluster servers skew term)

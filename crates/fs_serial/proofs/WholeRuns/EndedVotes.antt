@@ -1,10 +1,8 @@
 -- A server votes that a lease had ended: it had.
-use mathlib.Core.Path.{fun_ext}
-use Rattle.std.proofs.Common.{◌≡◌, ℕ, ◌+◌, ◌<◌, ◌≤◌, ◌⊎◌, not, true, false, List, [], ◌∷◌, cond, map, refl, sym, ap, ap₂, ◌∙◌, subst, inl}
+use Rattle.std.proofs.Common.{◌≡◌, ℕ, ◌+◌, ◌<◌, ◌≤◌, ◌⊎◌, not, true, false, List, [], ◌∷◌, cond, refl, sym, ap, ◌∙◌, subst, inl}
 use Rattle.std.proofs.Common.{inr, arith}
 use Rattle.std.proofs.lemmas.Bool.{ltb-true, ltb-false}
-use Rattle.std.specs.Prelude.{◌≢◌, ◌||◌, Bool, Option, Some, None, nat_lt, slice_get}
-use Rattle.std.specs.List.{find}
+use Rattle.std.specs.Prelude.{◌≢◌, Bool, Option, Some, None, nat_lt, slice_get}
 use Rattle.fs_ident.specs.Ident.{same}
 use Rattle.fs_ident.specs.In.{In}
 use Rattle.fs_ident.specs.declared.actor.LeaseNo.{LeaseNo}
@@ -21,6 +19,7 @@ use Rattle.fs_field.specs.declared.used.Part.{Part}
 use Rattle.fs_field.specs.declared.used.Use.{Use}
 use Rattle.fs_field.specs.declared.vote.Vote.{Vote}
 use Rattle.fs_field.specs.declared.vote.Vote.TheVariants as vote
+use Rattle.fs_field.proofs.Leases.{SameLease}
 use Rattle.fs_map.specs.Map.{longest}
 use Rattle.fs_moderows.proofs.Witnesses.{In_any}
 use Rattle.fs_parcel.proofs.Both.{passing}
@@ -33,6 +32,7 @@ use Rattle.fs_server.specs.Follows.{vote_here}
 use Rattle.fs_server.specs.Server.{is_mine}
 use Rattle.fs_server.specs.Ships.{first_gone, has_row}
 use Rattle.fs_server.specs.declared.state.Server.{Server}
+use Rattle.fs_server.proofs.Following.{gone_same}
 use Rattle.fs_txn.specs.Parts.{led_files, part_at}
 use Rattle.fs_txn.specs.Preparing.{moved_to, vote_by}
 use Rattle.fs_txn.specs.declared.mode.Mode2.TheVariants.{Plain}
@@ -55,16 +55,19 @@ use Rattle.fs_serial.proofs.WholeRuns.EndedStay.{count_own}
 
 -- ## Rows that are locked
 
-lease_relocked : (f : Row → Row) → IsRelock f → (by : Session) (u : Use) (rows : List Row) → has_row (map f rows) by u ≡ has_row rows by u
-lease_relocked f is by u [] = refl
-lease_relocked f is by u (r ∷ rs) =
-    ap₂ (λ a b. a || b) (ap (is_lease u.no by u.field u.kind) (is r).1) (lease_relocked f is by u rs)
+-- each stays the same lease
+relock_same : (f : Row → Row) → IsRelock f → (r : Row) → SameLease r (f r)
+relock_same f is r = record {
+  number = ap (λ (x : Row). x.no) (is r).1;
+  session = ap (λ (x : Row). x.session) (is r).1;
+  field = ap (λ (x : Row). x.field) (is r).1;
+  kind = ap (λ (x : Row). x.kind) (is r).1;
+}
 
 gone_relocked : (rows new : List Row) → AreRelocked rows new → (by : Session) (uses : List Use)
     → first_gone new by uses ≡ first_gone rows by uses
 gone_relocked rows new q by uses =
-    ap (λ test. find test uses)
-    (fun_ext (λ (u : Use). ap (λ rs. not (has_row rs by u)) q.is ∙ ap not (lease_relocked q.change q.relock by u rows)))
+    ap (λ rs. first_gone rs by uses) q.is ∙ gone_same q.change (relock_same q.change q.relock) rows by uses
 
 -- a vote says the same while rows are locked
 vote_relocked : (txn : TxnNo) (p : Part) (v : Vote) (s : Server) (by : Session) (q : Part)

@@ -54,7 +54,7 @@ begun_fair skew greatest k by entries s c at within there h =
     (In-mapped (λ (n : ℕ × ClientMsg). n.1) (k, Ship entries) (c.lines by).up
     (found (is_with k) (c.lines by).up (k, Ship entries) there).0) in
     let same : IsSameStep k e s (event_step e s) (event_step e (with_all s c)) c =
-    begun_in greatest k c s e at h.places (decided_in c) (ends_in c) view.0 view.1 coming tt (λ z. absurd (cc)) in
+    begun_in greatest k c s e at h.places (decided_in c) (ends_in c) view.0 coming tt (λ z. absurd (cc)) in
     let near : greatest ≤ s.last + s.skew = subst (λ n. greatest ≤ s.last + n) (sym (h.skewed s i)) within in
     let fair : IsFairNote (with_all s c).rows by s.last entries (ship_step by entries (with_all s c)).out.note =
     fair_ship greatest (world_of s c) by entries coming near view.0 in

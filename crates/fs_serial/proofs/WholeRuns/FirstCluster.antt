@@ -47,7 +47,7 @@ module _ (skew term : ℕ) where
   first_length zero = refl
   first_length (suc n) = let q = first_length n in length-append (first_servers n skew term) (first_server n skew term ∷ []) ∙ omega arith
 
-  first_at : (n k : ℕ) (s : Server) → slice_get (first_servers n skew term) k ≡ Some s → s ≡ first_server k skew term
+  pub first_at : (n k : ℕ) (s : Server) → slice_get (first_servers n skew term) k ≡ Some s → s ≡ first_server k skew term
   first_at zero k s e = absurd (cc)
   first_at (suc n) k s e = elim (last_at (first_servers n skew term) (first_server n skew term) k s e) as (λ _. s ≡ first_server k skew term) [
     | inl h ↦ first_at n k s h

@@ -104,4 +104,5 @@ module _ (skew greatest k : ℕ) (c : Cluster) (s : Server) (l : Leading) (at : 
 
   pub decision_keeps : ClusterHolds skew greatest then
   decision_keeps =
-      all_stand skew greatest k c s at h then (concludes l [] s).server refl refl (h.parts s here).0.clock places led stands addressed
+      all_stand skew greatest k c s at h then (concludes l [] s).server refl refl (h.parts s here).0.clock places (λ p. p) led stands
+      addressed

@@ -263,6 +263,7 @@ module _ (skew greatest k : ℕ) (c : Cluster) (s : Server) (at : slice_get c.se
         given = refl;
         reaps = refl;
         records = refl;
+        paths = refl;
         rows = relocked;
         parcels = ap parcels_of flight ∙ parcels;
         decided = still_decided c.servers after led ended_before ∙ ap (decided_among c.servers) flight

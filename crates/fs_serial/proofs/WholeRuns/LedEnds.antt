@@ -1,6 +1,6 @@
 -- What a session asks and is owed stays as it was while its operation is led: its question comes and is not taken before it is decided.
 use Rattle.std.proofs.Common.{◌≡◌, ℕ, ◌+◌, ◌==◌, ◌≤◌, not, Bool, true, false, List, [], ◌∷◌, ◌++◌}
-use Rattle.std.proofs.Common.{length, map, filter, cond, refl, sym, ap, ap₂, ◌∙◌, subst, append-nil, inl, arith}
+use Rattle.std.proofs.Common.{length, filter, cond, refl, sym, ap, ap₂, ◌∙◌, subst, append-nil, inl, arith}
 use Rattle.std.specs.Prelude.{Option, Some, None, slice_get, slice_set}
 use Rattle.std.specs.List.{flat_map}
 use Rattle.std.proofs.lemmas.Grind.{flat_map-append}
@@ -11,7 +11,6 @@ use Rattle.fs_ident.proofs.Same.{itself, one_session}
 use Rattle.fs_ident.proofs.Standing.{In-got}
 use Rattle.fs_field.specs.Table.{same_txn}
 use Rattle.fs_msg.specs.declared.answer.Answer.{Answer}
-use Rattle.fs_msg.specs.declared.answer.Answer.TheVariants as answer
 use Rattle.fs_msg.specs.declared.client_msg.ClientMsg.{ClientMsg}
 use Rattle.fs_msg.specs.declared.client_msg.ClientMsg.TheVariants.{Lead}
 use Rattle.fs_msg.specs.declared.lead.Lead.{Lead as ToLead}
@@ -26,12 +25,11 @@ use Rattle.fs_txn.specs.Deciding.{decision}
 use Rattle.fs_txn.specs.Leading.{with_leading, without_leading}
 use Rattle.fs_txn.specs.Votes.{Votes}
 use Rattle.fs_txn.specs.declared.decision.Decision.{Decision}
-use Rattle.fs_txn.specs.declared.leading.Ending.{Ending}
 use Rattle.fs_txn.specs.declared.leading.Leading.{Leading}
 use Rattle.fs_txn.proofs.Keys.{txn_is}
 use Rattle.fs_serial.specs.Cluster.{Cluster, IsThere, Lines, without_question}
 use Rattle.fs_serial.specs.Exchange.{IsToBeLed}
-use Rattle.fs_serial.specs.Owed.{ends_in, ends_with, owed_at, owed_to, question_of, taken_at, taken_leads}
+use Rattle.fs_serial.specs.Owed.{ends_in, ends_with, question_of, taken_at, taken_leads}
 use Rattle.fs_serial.specs.World.{Ends}
 use Rattle.fs_serial.specs.World as world
 use Rattle.fs_serial.specs.Seen.{ClusterHolds}
@@ -39,7 +37,7 @@ use Rattle.fs_serial.proofs.Lists.EachAt.{each_alone, each_none, each_same, noth
 use Rattle.fs_serial.proofs.Lists.Traffic.{messages}
 use Rattle.fs_serial.proofs.Transactions.OneOwner.{some_there}
 use Rattle.fs_serial.proofs.Transactions.OthersKeep.{taken_client}
-use Rattle.fs_serial.proofs.Transactions.SeenMeanwhile.{meanwhile_taken}
+use Rattle.fs_serial.proofs.Transactions.SeenMeanwhile.{meanwhile_taken, owed_same}
 use Rattle.fs_serial.proofs.Transactions.StandsAfter.{ones}
 use Rattle.fs_serial.proofs.Transactions.Tables.{all_stay}
 use Rattle.fs_serial.proofs.Transactions.ToldOrOwed as session
@@ -47,12 +45,6 @@ use Rattle.fs_serial.proofs.Transactions.Undecided.{up_asked}
 
 abbrev ends : Client → List ClientMsg → List Answer → Ends
 ends c up down = record { client = c; up = up; down = down }
-
--- what is owed stays where the endings do
-pub owed_same : (ss : List Server) (k : ℕ) (s t : Server) → slice_get ss k ≡ Some s → t.ending ≡ s.ending → (y : Session)
-    → owed_to y (slice_set ss k t) ≡ owed_to y ss
-owed_same ss k s t at ending y = each_same (owed_at y) ss k s t at
-    (ap (λ (es : List Ending). map (λ (z : Ending). answer.Led z.end) (filter (λ (z : Ending). z.session.0 == y.0) es)) ending)
 
 -- ## A transaction of the server has other votes
 

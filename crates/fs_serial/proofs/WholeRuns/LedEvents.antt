@@ -139,6 +139,7 @@ unchanged s = record {
   given = refl;
   reaps = refl;
   records = refl;
+  paths = refl;
   ending = refl;
   rows = relocked_not s.rows;
 }
@@ -152,6 +153,7 @@ voted_rows vote.Yes x s = record {
   given = refl;
   reaps = refl;
   records = refl;
+  paths = refl;
   ending = refl;
   rows = locked_so x.txn x.part.uses s.rows;
 }
@@ -211,5 +213,5 @@ module _ (skew greatest k : ℕ) (c : Cluster) (s : Server) (at : slice_get c.se
       ((all_keep_led skew greatest k c s at h).decided from m comes) in
       subst (λ z. ClusterHolds skew greatest (after_step k (event.FromPeer from (peer.Decide m)) z c)) (sym same)
       (all_stand skew greatest k c s at h (after_step k (event.FromPeer from (peer.Decide m)) (applies from m s) c)
-      (after_decision m s) refl refl (h.parts s here).0.clock (decided_places k c s at h.places h.led from m comes) led
+      (after_decision m s) refl refl (h.parts s here).0.clock (decided_places k c s at h.places h.led from m comes) (λ p. p) led
       (decide_stands k from skew greatest c s at h m comes led) h.addressed)

@@ -47,7 +47,6 @@ use Rattle.fs_serial.proofs.WholeRuns.LedEvents.{goes_on_keeps}
 use Rattle.fs_serial.proofs.WholeRuns.LedKept.{all_keep_led, led_op}
 use Rattle.fs_serial.proofs.WholeRuns.LedWorlds.{quiet_stands}
 use Rattle.fs_serial.specs.World.{World, settled_at, sight_in}
-use Rattle.fs_model.specs.declared.op.Op.TheVariants as op
 use Rattle.fs_client.specs.declared.led.Led.{Led}
 
 -- ## What the rounds send
@@ -140,6 +139,7 @@ module _ (skew greatest k : ℕ) (c : Cluster) (s : Server) (at : slice_get c.se
           given = ap (λ (z : Server). z.given) left;
           reaps = ap (λ (z : Server). z.reaps) left;
           records = ap (λ (z : Server). z.records) left;
+          paths = ap (λ (z : Server). z.paths) left;
           ending = ap (λ (z : Server). z.ending) left;
           rows = rounds_relock (txn_of s) 0 by (parts_in m) (first_round s) s.rows (relocked_not s.rows);
         };

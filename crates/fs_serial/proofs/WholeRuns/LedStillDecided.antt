@@ -7,14 +7,11 @@ use Rattle.fs_msg.specs.declared.peer_msg.PeerMsg.{PeerMsg}
 use Rattle.fs_msg.specs.declared.peer_msg.PeerMsg.TheVariants as peer
 use Rattle.fs_server.specs.declared.state.Server.{Server}
 use Rattle.fs_txn.specs.Grants.{Decided}
-use Rattle.fs_txn.specs.Stages.Word.{Decide}
 use Rattle.fs_txn.specs.declared.leading.Ending.{Ending}
 use Rattle.fs_serial.specs.Cluster.{Cluster, InFlight}
 use Rattle.fs_serial.specs.Leading.{LedHolds}
-use Rattle.fs_serial.specs.Words.{decided_among, decided_at, decided_by, desks_of, ended_in, key_of, led_in, told_in, told_with}
-use Rattle.fs_serial.proofs.Replies.Knowing.{In-filter_map}
-use Rattle.fs_serial.proofs.Transactions.AwaitedWords.{awaited_by}
-use Rattle.fs_serial.proofs.Transactions.Desks.{deciding_word}
+use Rattle.fs_serial.specs.Words.{decided_among, decided_at, decided_by, ended_in}
+use Rattle.fs_serial.proofs.Transactions.AwaitedWords.{decide_awaits}
 
 -- the transactions that servers know of then were ended for the same sessions before
 abbrev pub SameSessions : List Server → List Server → Type 0
@@ -26,21 +23,13 @@ module _ (ss : List Server) (after : Cluster) (led : LedHolds after) (same : Sam
   one_still f i = by f.message refl
     where
       by : (m : PeerMsg) → f.message ≡ m → decided_by after.servers m ≡ decided_by ss m
-      by (peer.Parcel p) e = refl
-      by (peer.Prepare p) e = refl
-      by (peer.Vote v) e = refl
-      by (peer.Done d) e = refl
       by (peer.Decide m) e =
-          let key = key_of m.txn m.number in
-          let word = told_with f.from f.to (key, Decide m.effects) in
-          let told : told_in f ≡ Some word = ap (λ x. told_in (let g : InFlight = record { from = f.from; to = f.to; message = x } in g)) e in
-          let w = deciding_word (desks_of led.parts after) key word refl led.stages
-          (In-filter_map told_in f word after.in_flight i told) m.effects refl in
-          let a = awaited_by m.number w.at (led_in after.servers m.txn) (ended_in after.servers m.txn) w.stage in
+          let a = decide_awaits after led f i m e in
           let b = same m.txn a.ending a.is in
           ap (λ o. decided_at o m.effects) a.is
           ∙ ap (λ by. decided_at (Some (let z : Ending = record (a.ending) { session = by } in z)) m.effects) (sym b.1.1)
           ∙ sym (ap (λ o. decided_at o m.effects) b.1.0)
+      by m e = refl
 
   all_still : (fs : List InFlight) → ((f : InFlight) → In f fs → In f after.in_flight)
       → decided_among after.servers fs ≡ decided_among ss fs

@@ -4,7 +4,6 @@ use Rattle.std.specs.Prelude.{Some, length, slice_get, slice_set}
 use Rattle.fs_ident.specs.In.{In}
 use Rattle.fs_ident.specs.declared.actor.Peer.{Peer}
 use Rattle.fs_ident.specs.declared.actor.Session.{Session}
-use Rattle.fs_ident.proofs.Passing.{found}
 use Rattle.fs_ident.proofs.Standing.{In-got}
 use Rattle.fs_field.specs.declared.row.Row.{Row}
 use Rattle.fs_field.specs.declared.used.Part.{Part}
@@ -37,7 +36,8 @@ use Rattle.fs_serial.specs.Seen.{ClusterHolds, IsAddressed}
 use Rattle.fs_serial.specs.Words.{decided_among}
 use Rattle.fs_serial.proofs.Lists.SetAt.{In_without}
 use Rattle.fs_serial.proofs.Transactions.AwaitedWords.{IsAwaited, vote_awaited, vote_is}
-use Rattle.fs_serial.proofs.Transactions.PlacesAfter.{AreRelocked, AreWords, no_words, one_word, relocked_not, voted_so, word_taken}
+use Rattle.fs_serial.proofs.Transactions.PlacesAfter.{AreRelocked, AreWords, names_there}
+use Rattle.fs_serial.proofs.Transactions.PlacesAfter.{no_words, one_word, relocked_not, voted_so, word_taken}
 use Rattle.fs_serial.proofs.WholeRuns.LedEnds.{asked_still}
 use Rattle.fs_serial.proofs.WholeRuns.LedEvents.{goes_on_keeps}
 use Rattle.fs_serial.proofs.WholeRuns.LedKept.{all_keep_led}
@@ -82,6 +82,7 @@ module _ (skew greatest k : ℕ) (c : Cluster) (s : Server) (at : slice_get c.se
             given = refl;
             reaps = refl;
             records = refl;
+            paths = refl;
             ending = refl;
             rows = relocked;
           };
@@ -156,7 +157,7 @@ module _ (skew greatest k : ℕ) (c : Cluster) (s : Server) (at : slice_get c.se
   by_vote (vote.PathsOut n) is =
       subst (λ v. ClusterHolds skew greatest (after_step k e (counts m.number v l s) c)) is (counted (ap is_moved is))
   by_vote (vote.Moved prefix to) is =
-      let names : VoteNames (length c.servers) m.vote = (h.places.goes f (found (is_between from k) c.in_flight f comes).0).names in
+      let names : VoteNames (length c.servers) m.vote = names_there k from c (peer.Vote m) h.places comes in
       subst (λ o. ClusterHolds skew greatest (after_step k e (sent_on m.number to o l s) c)) (sym q.part)
       (sent q.wanted q.part (ap is_moved is) to (subst (VoteNames (length c.servers)) is names) (to == s.me) refl)
 

@@ -37,6 +37,7 @@ use Rattle.fs_serial.proofs.DecidedEffects.ToldParts.{IsPutIn}
 use Rattle.fs_serial.proofs.Lists.Traffic.{IsTaken, taken_first}
 use Rattle.fs_serial.proofs.Moves.Parcels.{parcels-append}
 use Rattle.fs_serial.proofs.Places.RelockedRows.{home_relock, rows_relocked}
+use Rattle.fs_serial.proofs.Moves.KeptPaths.{pathless_still}
 use Rattle.fs_serial.proofs.Returns.Lapsing.{same_records}
 use Rattle.fs_serial.proofs.Transactions.DecidedStill.{decided_same, ended_set}
 use Rattle.fs_serial.proofs.Transactions.PlacesAfter.{AreRelocked, AreWords, StaysHome, places_stepped}
@@ -52,6 +53,7 @@ pub record OnlyRelocks (k : ℕ) (s t : Server) (c after : Cluster) : Type 0 whe
   pub given : t.given ≡ s.given
   pub reaps : t.reaps ≡ s.reaps
   pub records : t.records ≡ s.records
+  pub paths : t.paths ≡ s.paths
   pub rows : AreRelocked s.rows t.rows
   pub parcels : parcels_of after.in_flight ≡ parcels_of c.in_flight
   pub decided : decided_in after ≡ decided_in c
@@ -97,6 +99,7 @@ module _ (skew greatest k : ℕ) (c : Cluster) (s t : Server) (at : slice_get c.
         alike_holds greatest (with_locks relock (record w { ends = ends_in after })) (world_of t after) (record {
           rows = rows_then;
           records = held_then;
+          stored = records_then;
           skew = q.skew;
           given = λ j. ap (λ ss. count_with t.me t.given (λ i. given_at (slice_get ss i)) j) q.servers
               ∙ count_set given_at c.servers k t.me t.given t (q.me ∙ h.places.numbered k s at) j
@@ -118,14 +121,13 @@ module _ (skew greatest k : ℕ) (c : Cluster) (s t : Server) (at : slice_get c.
           record {
             put = subst (λ m. IsPutIn (nodes_of m) d.effect) (sym held_then) (all_put skew greatest c h s here d j);
             bare = subst (λ m. IsBare m d.effect) (sym records_then) x.bare;
-            file = subst (λ m. IsOfFile m after.journal d.effect) (sym records_then)
-                (subst (λ is. IsOfFile records is d.effect) (sym q.journal) x.file);
+            file = subst (λ is. IsOfFile is d.effect) (sym q.journal) x.file;
             owed = λ none. view.1.owed d j (silent d.by none);
           }
 
       pub relocked_stands : PlacesHold after → ((x : Session) → IsAddressed (after.lines x)) → ClusterHolds skew greatest after
       relocked_stands places addressed =
-          all_stand skew greatest k c s at h after t q.servers q.skew clock places led
+          all_stand skew greatest k c s at h after t q.servers q.skew clock places (pathless_still s t q.paths) led
           (world_holds, fits_again after t led (subst AreRecords (sym records_then) view.1.all.records) stays) addressed
 
 -- ## What is on its way
@@ -151,6 +153,7 @@ pub record OnlyRows (s t : Server) : Type 0 where
   pub given : t.given ≡ s.given
   pub reaps : t.reaps ≡ s.reaps
   pub records : t.records ≡ s.records
+  pub paths : t.paths ≡ s.paths
   pub ending : t.ending ≡ s.ending
   pub rows : AreRelocked s.rows t.rows
 
@@ -198,6 +201,7 @@ module _ (skew greatest k : ℕ) (c : Cluster) (s t : Server) (at : slice_get c.
       given = q.rows.given;
       reaps = q.rows.reaps;
       records = q.rows.records;
+      paths = q.rows.paths;
       rows = q.rows.rows;
       parcels = parcels-append left (in_flight_from k ms) ∙ ap₂ (λ (a b : List Parcel). a ++ b) q.parcels q.none
           ∙ append-nil (parcels_of c.in_flight);

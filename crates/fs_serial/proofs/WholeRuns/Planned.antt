@@ -20,7 +20,7 @@ use Rattle.fs_view.specs.View.{missing_in, reply_in}
 use Rattle.fs_record.specs.declared.led_end.LedEnd.{LedEnd}
 use Rattle.fs_record.specs.declared.led_end.LedEnd.TheVariants as end
 use Rattle.fs_client.specs.Acts.{act_on, answer_with, answers, ask_for, asks, full_one, hinted, need_file, stays, unless_led, worth}
-use Rattle.fs_client.specs.Answers.{ended_plan, fits, hear, led_plan, strange, told}
+use Rattle.fs_client.specs.Answers.{ended_plan, fits, hear, led_plan, strange, fitting_plan}
 use Rattle.fs_client.specs.Client.{begun, changed, committed, with_hints}
 use Rattle.fs_client.specs.Turns.{ending, idle, release_some, renew_some, returned, ship_some, turn_free, turn_on}
 use Rattle.fs_client.specs.declared.change.Change.{Change}
@@ -154,7 +154,7 @@ led_posted : (led : Option TheLed) (e : LedEnd) (c : Client) → IsPosted (led_p
 led_posted None e c = refl
 led_posted (Some l) e c = ended_posted l e c
 
-told_posted : (a : Answer) (c : Client) → IsPosted (told a c)
+told_posted : (a : Answer) (c : Client) → IsPosted (fitting_plan a c)
 told_posted (Granted grants fresh e) c = refl
 told_posted (Renewed ends e) c = refl
 told_posted (Released count e) c = refl
@@ -163,7 +163,7 @@ told_posted (Led e) c = led_posted c.led e c
 told_posted (Recall number) c = refl
 
 pub hear_posted : (from : ℕ) (a : Answer) (c : Client) → IsPosted (hear from a c)
-hear_posted from a c = elim (fits from c.exchange a c) as (λ b. IsPosted (cond b (told a c) (strange c))) [ true ↦ told_posted a c | false ↦ refl ]
+hear_posted from a c = elim (fits from c.exchange a c) as (λ b. IsPosted (cond b (fitting_plan a c) (strange c))) [ true ↦ told_posted a c | false ↦ refl ]
 
 -- ## So it goes where it was addressed
 

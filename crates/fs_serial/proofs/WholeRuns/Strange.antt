@@ -17,8 +17,8 @@ use Rattle.fs_msg.specs.declared.peer_msg.PeerMsg.{PeerMsg}
 use Rattle.fs_msg.specs.declared.peer_msg.PeerMsg.TheVariants as peer
 use Rattle.fs_msg.specs.declared.server_note.ServerNote.TheVariants as note
 use Rattle.fs_msg.specs.declared.server_note.ServerNote.TheVariants.{Strange}
-use Rattle.fs_parcel.specs.Parcel.{move_refusal}
 use Rattle.fs_parcel.specs.declared.error.MoveError.{MoveError}
+use Rattle.fs_parcel.specs.declared.error.MoveError.TheVariants as move
 use Rattle.fs_record.specs.Effects.{tells_its_effects}
 use Rattle.fs_record.specs.declared.led_end.Why.{Why}
 use Rattle.fs_server.proofs.Splitting.{commit_splits}
@@ -47,9 +47,11 @@ use Rattle.fs_serial.proofs.Lists.SetAt.{get_here}
 use Rattle.fs_serial.proofs.Lists.Traffic.{messages}
 use Rattle.fs_serial.proofs.Moves.Arriving.{parcel_stands}
 use Rattle.fs_serial.proofs.Moves.ParcelFits.{RowsStand}
+use Rattle.fs_serial.proofs.Moves.PathSteps.{refusal_here}
 use Rattle.fs_serial.proofs.OneServer.ServerEvents.{all_plain}
 use Rattle.fs_serial.proofs.Returns.Lapsing.{begun_at, there_begun}
 use Rattle.fs_serial.proofs.Transactions.OtherSteps.{begins_stands}
+use Rattle.fs_serial.proofs.Transactions.PlacesAfter.{names_there}
 use Rattle.fs_serial.proofs.Transactions.StandsAfter.{view}
 use Rattle.fs_txn.specs.declared.leading.Leading.{Leading}
 
@@ -59,7 +61,8 @@ over_note (x ∷ xs) s e = absurd (cc)
 
 moves_note : (o : Option MoveError) (prefix : List ℕ) (to : ℕ) (s : Server) → (move_at o prefix to s).out.note ≢ Strange
 moves_note None prefix to s e = absurd (cc)
-moves_note (Some why) prefix to s e = absurd (cc)
+moves_note (Some (move.Paths number)) prefix to s e = absurd (cc e)
+moves_note (Some why) prefix to s e = absurd (cc e)
 
 log_note : (by : Session) (entries : List Entry) (s : Server) → list_all (λ (e : Entry). tells_its_effects e.op) entries ≡ true
     → (message_step by (Ship entries) s).out.note ≢ Strange
@@ -108,13 +111,14 @@ module _ (skew greatest k : ℕ) (c : Cluster) (s : Server) (at : slice_get c.se
   peer_note from (peer.Vote m) there = words_awaited k from c s at (peer.Vote m) there h.led (λ e. absurd (cc))
   peer_note from (peer.Decide m) there = words_awaited k from c s at (peer.Decide m) there h.led (λ e. absurd (cc))
   peer_note from (peer.Done m) there = words_awaited k from c s at (peer.Done m) there h.led (λ e. absurd (cc))
+  peer_note from m there = absurd (names_there k from c m h.places there)
 
   event_note : (e : ServerEvent) → IsThere k e c → (event_step e s).out.note ≢ Strange
   event_note (event.FromClient by m) there = message_note by m there
   event_note (event.FromPeer from m) there = peer_note from m there
   event_note event.Turn there = over_note (lapsed_in s) s
   event_note (event.Recall field) there = λ e. absurd (cc)
-  event_note (event.Move prefix to) there = moves_note (move_refusal s.records s.rows s.map s.me prefix to None) prefix to s
+  event_note (event.Move prefix to) there = moves_note (refusal_here prefix to s) prefix to s
 
 pub none_strange : (skew greatest now k : ℕ) (e : ServerEvent) (s : Server) (c : Cluster) → slice_get c.servers k ≡ Some s
     → max s.last now ≤ greatest → IsThere k e c → ClusterHolds skew greatest c → (step s now e).out.note ≢ Strange

@@ -37,21 +37,23 @@ of_holds greatest w clock h = record { all = h.all; clock = clock; clients = h.c
 
 -- ## Worlds that are alike
 
-abbrev sight : List Row → RecordMap → (ℕ → ℕ) → (ℕ → ℕ) → List Item → Sight
-sight rows records given reaps journal = record { rows = rows; records = records; given = given; reaps = reaps; journal = journal }
+abbrev sight : List Row → RecordMap → RecordMap → (ℕ → ℕ) → (ℕ → ℕ) → List Item → Sight
+sight rows records stored given reaps journal = record { rows = rows; records = records; stored = stored; given = given; reaps = reaps; journal = journal }
 
-same_sight : (a b : Sight) → a.rows ≡ b.rows → a.records ≡ b.records → a.given ≡ b.given → a.reaps ≡ b.reaps → a.journal ≡ b.journal → a ≡ b
-same_sight a b rows records given reaps journal =
-    let first : sight a.rows a.records a.given a.reaps a.journal ≡ sight b.rows a.records a.given a.reaps a.journal = ap (λ x. sight x a.records a.given a.reaps a.journal) rows in
-    let second : sight b.rows a.records a.given a.reaps a.journal ≡ sight b.rows b.records a.given a.reaps a.journal = ap (λ x. sight b.rows x a.given a.reaps a.journal) records in
-    let third : sight b.rows b.records a.given a.reaps a.journal ≡ sight b.rows b.records b.given a.reaps a.journal = ap (λ x. sight b.rows b.records x a.reaps a.journal) given in
-    let fourth : sight b.rows b.records b.given a.reaps a.journal ≡ sight b.rows b.records b.given b.reaps a.journal = ap (λ x. sight b.rows b.records b.given x a.journal) reaps in
-    first ∙ second ∙ third ∙ fourth ∙ ap (λ x. sight b.rows b.records b.given b.reaps x) journal
+same_sight : (a b : Sight) → a.rows ≡ b.rows → a.records ≡ b.records → a.stored ≡ b.stored → a.given ≡ b.given → a.reaps ≡ b.reaps → a.journal ≡ b.journal → a ≡ b
+same_sight a b rows records stored given reaps journal =
+    ap (λ x. sight x a.records a.stored a.given a.reaps a.journal) rows
+    ∙ ap (λ x. sight b.rows x a.stored a.given a.reaps a.journal) records
+    ∙ ap (λ x. sight b.rows b.records x a.given a.reaps a.journal) stored
+    ∙ ap (λ x. sight b.rows b.records b.stored x a.reaps a.journal) given
+    ∙ ap (λ x. sight b.rows b.records b.stored b.given x a.journal) reaps
+    ∙ ap (λ x. sight b.rows b.records b.stored b.given b.reaps x) journal
 
 -- sessions see the same in both
 pub record AreAlike (w v : World) : Type 0 where
   pub rows : v.server.rows ≡ w.server.rows
   pub records : (seen v.decided v.server).records ≡ (seen w.decided w.server).records
+  pub stored : v.server.records ≡ w.server.records
   pub skew : v.server.skew ≡ w.server.skew
   pub given : (k : ℕ) → count_with v.server.me v.server.given v.counts.given k ≡ count_with w.server.me w.server.given w.counts.given k
   pub reaps : (k : ℕ) → count_with v.server.me v.server.reaps v.counts.reaps k ≡ count_with w.server.me w.server.reaps w.counts.reaps k
@@ -61,7 +63,7 @@ pub record AreAlike (w v : World) : Type 0 where
 
 pub alike_holds : (greatest : ℕ) (w v : World) → AreAlike w v → v.server.last ≤ greatest → WorldHolds greatest w → WorldHolds greatest v
 alike_holds greatest w v q clock h =
-    let seen : sight_in v ≡ sight_in w = same_sight (sight_in v) (sight_in w) q.rows q.records (fun_ext q.given) (fun_ext q.reaps) q.journal in
+    let seen : sight_in v ≡ sight_in w = same_sight (sight_in v) (sight_in w) q.rows q.records q.stored (fun_ext q.given) (fun_ext q.reaps) q.journal in
     let ends : v.ends ≡ w.ends = fun_ext q.ends in
     of_holds greatest v clock
     (subst (λ k. Holds k greatest (sight_in v) v.replied v.ends) (sym q.skew)
@@ -91,6 +93,7 @@ pub other_view : (greatest : ℕ) (c : Cluster) (s t : Server) (i j : ℕ) → s
 other_view greatest c s t i j at me at2 me2 skew clock h = alike_holds greatest (world_of s c) (world_of t c) (record {
   rows = refl;
   records = refl;
+  stored = refl;
   skew = skew;
   given = λ k. count_at_place given_at c.servers j t.me t at2 me2 k ∙ sym (count_at_place given_at c.servers i s.me s at me k);
   reaps = λ k. count_at_place reaps_at c.servers j t.me t at2 me2 k ∙ sym (count_at_place reaps_at c.servers i s.me s at me k);

@@ -78,7 +78,10 @@ const ASK_FAULTS: &str = "0 0 Some(Tag { at: 0 })\n\
 0 35 Some(Short)\n\
 0 36 Some(Trailing { at: 11 })\n\
 0 37 Some(Range { at: 1 })\n\
-0 38 Some(Tag { at: 0 })\n\
+0 39 Some(Short)\n\
+0 40 Some(Range { at: 1 })\n\
+0 41 Some(Trailing { at: 10 })\n\
+0 43 Some(Tag { at: 0 })\n\
 1 0 None\n\
 1 1 Some(Short)\n\
 2 0 None\n\
@@ -159,7 +162,10 @@ const RENEWAL_FAULTS: &str = "0 0 Some(Tag { at: 0 })\n\
 0 35 Some(Short)\n\
 0 36 Some(Trailing { at: 11 })\n\
 0 37 Some(Range { at: 1 })\n\
-0 38 Some(Tag { at: 0 })\n\
+0 39 Some(Range { at: 10 })\n\
+0 40 Some(Range { at: 1 })\n\
+0 41 Some(Trailing { at: 10 })\n\
+0 43 Some(Tag { at: 0 })\n\
 1 0 None\n\
 1 1 Some(Short)\n\
 2 0 None\n\
@@ -248,7 +254,10 @@ const END_FAULTS: &str = "0 0 Some(Tag { at: 0 })\n\
 0 35 Some(Short)\n\
 0 36 Some(Trailing { at: 11 })\n\
 0 37 Some(Range { at: 1 })\n\
-0 38 Some(Tag { at: 0 })\n\
+0 39 Some(Range { at: 10 })\n\
+0 40 Some(Range { at: 1 })\n\
+0 41 Some(Trailing { at: 10 })\n\
+0 43 Some(Tag { at: 0 })\n\
 1 0 None\n\
 2 0 None\n\
 3 0 None\n\
@@ -299,7 +308,10 @@ const SHIPPED_REAP_FAULTS: &str = "0 0 Some(Tag { at: 0 })\n\
 0 35 Some(Range { at: 20 })\n\
 0 36 Some(Trailing { at: 11 })\n\
 0 37 Some(Range { at: 1 })\n\
-0 38 Some(Tag { at: 0 })\n\
+0 39 Some(Range { at: 10 })\n\
+0 40 Some(Range { at: 1 })\n\
+0 41 Some(Trailing { at: 10 })\n\
+0 43 Some(Tag { at: 0 })\n\
 1 0 None\n\
 1 1 Some(Short)\n\
 2 0 None\n\

@@ -1,4 +1,4 @@
-//! The texts of notes on led operations.
+//! The texts of notes on led operations and on path leases.
 use crate::report::id;
 use crate::report::notes::writes_note;
 use fs_field::Vote;
@@ -143,6 +143,52 @@ fn note(alloc: Global, k: u64) -> Result<Note, Fail> {
             what: fs_msg::Busy::Led,
         })),
     }
+}
+
+/// The texts of notes on path leases, by their numbers.
+const PATHS: [&[u8]; 10] = [
+    b"pathgrants s0@1",
+    b"pathdenies frozen /1 s0#1",
+    b"pathholds s0@1",
+    b"pathdrops s0@1",
+    b"pathseeks /1 s2",
+    b"pathfails nochild",
+    b"pathfrees s0@1",
+    b"pathdown s0@1 18446744073709551615",
+    b"pathback s0@1",
+    b"none",
+];
+
+fn path_note(alloc: Global, k: u64) -> Result<ServerNote, Fail> {
+    match k {
+        0 => Ok(ServerNote::PathGrants { no: PATH }),
+        1 => Ok(ServerNote::PathDenies {
+            why: why(alloc, 2)?,
+        }),
+        2 => Ok(ServerNote::PathHolds { no: PATH }),
+        3 => Ok(ServerNote::PathDrops { no: PATH }),
+        4 => Ok(ServerNote::PathSeeks {
+            file: id(alloc, b"/1")?,
+            to: 2,
+        }),
+        5 => Ok(ServerNote::PathFails { why: Why::NoChild }),
+        6 => Ok(ServerNote::PathFrees { no: PATH }),
+        7 => Ok(ServerNote::PathDown {
+            no: PATH,
+            count: u64::MAX,
+        }),
+        8 => Ok(ServerNote::PathBack { no: PATH }),
+        _ => Ok(ServerNote::PathNone),
+    }
+}
+
+#[test]
+fn writes_notes_on_path_leases(rt: HostRuntime) -> Result<(), Fail> {
+    for (k, text) in PATHS.iter().enumerate() {
+        let note = Note::Server(path_note(rt.alloc(), k as u64)?);
+        writes_note(&rt, rt.alloc(), note, *text)?;
+    }
+    Ok(())
 }
 
 #[test]

@@ -1,8 +1,11 @@
-use Rattle.std.proofs.Common.{refl}
-use Rattle.fs_server.proofs.Counting.{done_can}
+use Rattle.std.proofs.Common.{refl, sym, ◌∙◌}
+use Rattle.fs_server.proofs.Counting.{done_can, done_so}
 use Rattle.fs_server.specs.declared.change.Change.TheVariants as change
 use Rattle.fs_server.specs.declared.decide.Decided.{Decided}
 use Rattle.fs_server.proofs.counts.done_of.Goals as goal
+
+pub returns-clause-step : goal.returns-clause-step
+returns-clause-step c = done_so c.args.x.now c.args.m.now c.args.at.now c.in_ok-out.out c.requires.ending (sym c.awaits.ensures ∙ c.if-not-awaits.false) c.in_ok-out.ensures
 
 pub returns-clause-can : goal.returns-clause-can
 returns-clause-can c =

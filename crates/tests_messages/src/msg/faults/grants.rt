@@ -24,7 +24,10 @@ const GRANT_FAULTS: &str = "0 0 Some(Tag { at: 0 })\n\
 0 35 Some(Tag { at: 19 })\n\
 0 36 Some(Trailing { at: 11 })\n\
 0 37 Some(Range { at: 1 })\n\
-0 38 Some(Tag { at: 0 })\n\
+0 39 Some(Range { at: 10 })\n\
+0 40 Some(Range { at: 1 })\n\
+0 41 Some(Trailing { at: 10 })\n\
+0 43 Some(Tag { at: 0 })\n\
 1 0 None\n\
 1 1 Some(Short)\n\
 2 0 None\n\

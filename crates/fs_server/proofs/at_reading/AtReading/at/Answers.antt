@@ -19,6 +19,7 @@ returns-clause-ready c =
         given = c.requires.server.given;
         reaps = c.requires.server.reaps;
         txns = c.requires.server.txns;
+        paths = c.requires.server.paths;
         numbers = subst (λ rows. AreGiven s.me s.given rows) (sym c.live.ensures.rows) (given_filter s.me s.given (is_live c.max-reading.result s.skew) s.rows c.requires.server.numbers);
         whole = c.requires.server.whole;
       };

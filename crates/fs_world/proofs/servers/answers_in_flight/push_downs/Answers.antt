@@ -8,5 +8,6 @@ loop-pushed-preserved c = record {
   within = omega arith;
   sessions = c.in-Ok.ensures.ok
       ∙ ap (with_down c.args.k c.index-send-pushed.result) c.loop-pushed.invariant.sessions
-      ∙ sym (downs_more c.args.k c.args.send.now c.loop-pushed.pushed c.index-send-pushed.result c.args.sessions.now c.loop-pushed-test.true c.index-send-pushed.is);
+      ∙ sym (downs_more c.args.k c.args.send.now c.loop-pushed.pushed c.index-send-pushed.result c.args.sessions.now
+      c.loop-pushed-test.true c.index-send-pushed.is);
 }

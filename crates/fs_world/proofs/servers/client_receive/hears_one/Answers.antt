@@ -12,7 +12,8 @@ pub returns-in_ok-outcome-in-None-clause-done : goal.returns-in_ok-outcome-in-No
 returns-in_ok-outcome-in-None-clause-done c =
     let a = c.args in
     let state = a.state.now in
-    let none : None ≡ answer_heard a.heard.now.joined = sym c.in-None.is ∙ c.in_ok-answer_heard.ensures ∙ ap answer_heard c.as_slice.ensures in
+    let none : None ≡ answer_heard a.heard.now.joined =
+    sym c.in-None.is ∙ c.in_ok-answer_heard.ensures ∙ ap answer_heard c.as_slice.ensures in
     let put : Links → SessionState = λ post. record state { post = post } in
     let e = c.in_ok-outcome-in-None.ensures in
     (λ i. session_left (e.outcome i) (put (c.mark_sent.ensures i)) a.journal.now (e.ok i))
@@ -23,11 +24,15 @@ pub returns-in-Some-clause-done : goal.returns-in-Some-clause-done
 returns-in-Some-clause-done c =
     let a = c.args in
     let n = c.takes.new in
-    let heard : Some c.in-Some.a ≡ answer_heard a.heard.now.joined = sym c.in-Some.is ∙ c.in_ok-answer_heard.ensures ∙ ap answer_heard c.as_slice.ensures in
-    subst (λ (o : Option Answer). IfOk c.takes.result (λ outcome. session_left outcome n.state n.journal n.packets ≡ client_hears_one a.now a.s a.k a.from a.heard.now o a.state.now a.journal.now a.packets.now)) heard c.takes.ensures.done
+    let heard : Some c.in-Some.a ≡ answer_heard a.heard.now.joined =
+    sym c.in-Some.is ∙ c.in_ok-answer_heard.ensures ∙ ap answer_heard c.as_slice.ensures in
+    subst (λ (o : Option Answer). IfOk c.takes.result (λ outcome. session_left outcome n.state n.journal n.packets ≡ client_hears_one a.now
+    a.s a.k a.from a.heard.now o a.state.now a.journal.now a.packets.now)) heard c.takes.ensures.done
 
 pub returns-in-Some-clause-spends : goal.returns-in-Some-clause-spends
 returns-in-Some-clause-spends c =
     let a = c.args in
-    let heard : Some c.in-Some.a ≡ answer_heard a.heard.now.joined = sym c.in-Some.is ∙ c.in_ok-answer_heard.ensures ∙ ap answer_heard c.as_slice.ensures in
-    subst (λ (o : Option Answer). Spends c.takes.result (client_hears_one a.now a.s a.k a.from a.heard.now o a.state.now a.journal.now a.packets.now).spent) heard c.takes.ensures.spends
+    let heard : Some c.in-Some.a ≡ answer_heard a.heard.now.joined =
+    sym c.in-Some.is ∙ c.in_ok-answer_heard.ensures ∙ ap answer_heard c.as_slice.ensures in
+    subst (λ (o : Option Answer). Spends c.takes.result (client_hears_one a.now a.s a.k a.from a.heard.now o a.state.now a.journal.now
+    a.packets.now).spent) heard c.takes.ensures.spends

@@ -21,14 +21,20 @@ room : (c : After-commit_and_send) → is_act_spent c.args.state.now.client c.ar
 room c = false_from_ne_true _ (λ t. no_error _ _ _ (c.in_ok-plan_act.ensures.only t))
 
 -- so it is what the operation comes to
-acted : {T E : Type 0} (r : Result T E) (left : T → SessionStepped) (now : ℕ) (s : Session) (o : Op) (state : SessionState) (journal : List Item) (packets : Packets) (p : Plan Note) → is_act_spent state.client now o ≡ false → p ≡ act_noted (act_plan state.client now o) → IfOk r (λ outcome. left outcome ≡ client_does s false None false p state journal packets) → IfOk r (λ outcome. left outcome ≡ client_acts now s o state journal packets)
+acted : {T E : Type 0} (r : Result T E) (left : T → SessionStepped) (now : ℕ) (s : Session) (o : Op) (state : SessionState)
+    (journal : List Item) (packets : Packets) (p : Plan Note) → is_act_spent state.client now o ≡ false
+    → p ≡ act_noted (act_plan state.client now o)
+    → IfOk r (λ outcome. left outcome ≡ client_does s false None false p state journal packets)
+    → IfOk r (λ outcome. left outcome ≡ client_acts now s o state journal packets)
 acted r left now s o state journal packets p q e done =
-    subst (λ b. IfOk r (λ outcome. left outcome ≡ client_does s false None b (act_noted (act_plan state.client now o)) state journal packets)) (sym q)
+    subst (λ b. IfOk r (λ outcome. left outcome ≡ client_does s false None b (act_noted (act_plan state.client now o)) state journal
+    packets)) (sym q)
     (subst (λ (x : Plan Note). IfOk r (λ outcome. left outcome ≡ client_does s false None false x state journal packets)) e done)
 
 pub returns-clause-done : goal.returns-clause-done
 returns-clause-done c =
-    acted c.commit_and_send.result (λ outcome. session_left outcome c.commit_and_send.new.state c.commit_and_send.new.journal c.commit_and_send.new.packets) c.args.now c.args.s c.args.op.now c.args.state.now c.args.journal.now c.args.packets.now _ (room c)
+    acted c.commit_and_send.result (λ outcome. session_left outcome c.commit_and_send.new.state c.commit_and_send.new.journal
+    c.commit_and_send.new.packets) c.args.now c.args.s c.args.op.now c.args.state.now c.args.journal.now c.args.packets.now _ (room c)
     (c.act_noted-plan.ensures ∙ ap act_noted c.in_ok-plan_act.ensures.plan)
     c.commit_and_send.ensures.done
 

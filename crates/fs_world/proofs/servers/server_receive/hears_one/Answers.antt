@@ -17,7 +17,8 @@ pub returns-in_ok-outcome-in-None-clause-done : goal.returns-in_ok-outcome-in-No
 returns-in_ok-outcome-in-None-clause-done c =
     let a = c.args in
     let x : ServerStepped = server_found a.core.now a.post.now a.sessions.now a.in_flight.now a.journal.now a.packets.now in
-    let none : None ≡ event_heard a.from a.heard.now.joined = sym c.in-None.is ∙ c.in_ok-event_heard.ensures.event ∙ ap (event_heard a.from) c.as_slice.ensures in
+    let none : None ≡ event_heard a.from a.heard.now.joined =
+    sym c.in-None.is ∙ c.in_ok-event_heard.ensures.event ∙ ap (event_heard a.from) c.as_slice.ensures in
     let e = c.in_ok-outcome-in-None.ensures in
     (λ i. server_left (e.outcome i) a.core.now (c.mark_sent.ensures i) a.sessions.now a.in_flight.now a.journal.now (e.ok i))
     ∙ ap (λ (n : Note). server_goes a.k false a.replied n None x) c.unheard_note-note.ensures
@@ -28,7 +29,8 @@ pub returns-in_ok-outcome-in-None-clause-fits : goal.returns-in_ok-outcome-in-No
 returns-in_ok-outcome-in-None-clause-fits c =
     let a = c.args in
     let x : ServerStepped = server_found a.core.now a.post.now a.sessions.now a.in_flight.now a.journal.now a.packets.now in
-    let none : None ≡ event_heard a.from a.heard.now.joined = sym c.in-None.is ∙ c.in_ok-event_heard.ensures.event ∙ ap (event_heard a.from) c.as_slice.ensures in
+    let none : None ≡ event_heard a.from a.heard.now.joined =
+    sym c.in-None.is ∙ c.in_ok-event_heard.ensures.event ∙ ap (event_heard a.from) c.as_slice.ensures in
     unheard_answered a.now a.from a.heard.now.joined x c.requires.few none
 
 pub returns-in-Some-clause-done : goal.returns-in-Some-clause-done
@@ -36,20 +38,27 @@ returns-in-Some-clause-done c =
     let a = c.args in
     let n = c.core_step.new in
     let x : ServerStepped = server_found a.core.now a.post.now a.sessions.now a.in_flight.now a.journal.now a.packets.now in
-    let heard : Some c.in-Some.event ≡ event_heard a.from a.heard.now.joined = sym c.in-Some.is ∙ c.in_ok-event_heard.ensures.event ∙ ap (event_heard a.from) c.as_slice.ensures in
-    subst (λ (o : Option ServerEvent). IfOk c.core_step.result (λ outcome. server_left outcome n.core n.post n.sessions n.in_flight n.journal n.packets ≡ server_hears_one a.now a.k a.replied a.heard.now o x)) heard c.core_step.ensures.done
+    let heard : Some c.in-Some.event ≡ event_heard a.from a.heard.now.joined =
+    sym c.in-Some.is ∙ c.in_ok-event_heard.ensures.event ∙ ap (event_heard a.from) c.as_slice.ensures in
+    subst (λ (o : Option ServerEvent). IfOk c.core_step.result (λ outcome. server_left outcome n.core n.post n.sessions n.in_flight
+    n.journal n.packets ≡ server_hears_one a.now a.k a.replied a.heard.now o x)) heard c.core_step.ensures.done
 
 pub returns-in-Some-clause-fits : goal.returns-in-Some-clause-fits
 returns-in-Some-clause-fits c =
     let a = c.args in
     let n = c.core_step.new in
     let x : ServerStepped = server_found a.core.now a.post.now a.sessions.now a.in_flight.now a.journal.now a.packets.now in
-    let heard : Some c.in-Some.event ≡ event_heard a.from a.heard.now.joined = sym c.in-Some.is ∙ c.in_ok-event_heard.ensures.event ∙ ap (event_heard a.from) c.as_slice.ensures in
-    answered_after c.core_step.result a.k a.from a.replied a.now a.heard.now.joined x c.in-Some.event (λ outcome. server_left outcome n.core n.post n.sessions n.in_flight n.journal n.packets) c.requires.few heard c.core_step.ensures.fits (λ o. refl) c.core_step.ensures.done
+    let heard : Some c.in-Some.event ≡ event_heard a.from a.heard.now.joined =
+    sym c.in-Some.is ∙ c.in_ok-event_heard.ensures.event ∙ ap (event_heard a.from) c.as_slice.ensures in
+    answered_after c.core_step.result a.k a.from a.replied a.now a.heard.now.joined x c.in-Some.event
+    (λ outcome. server_left outcome n.core n.post n.sessions n.in_flight n.journal n.packets) c.requires.few heard
+    c.core_step.ensures.fits (λ o. refl) c.core_step.ensures.done
 
 pub returns-in-Some-clause-spends : goal.returns-in-Some-clause-spends
 returns-in-Some-clause-spends c =
     let a = c.args in
     let x : ServerStepped = server_found a.core.now a.post.now a.sessions.now a.in_flight.now a.journal.now a.packets.now in
-    let heard : Some c.in-Some.event ≡ event_heard a.from a.heard.now.joined = sym c.in-Some.is ∙ c.in_ok-event_heard.ensures.event ∙ ap (event_heard a.from) c.as_slice.ensures in
-    subst (λ (o : Option ServerEvent). Spends c.core_step.result (server_hears_one a.now a.k a.replied a.heard.now o x).spent) heard c.core_step.ensures.spends
+    let heard : Some c.in-Some.event ≡ event_heard a.from a.heard.now.joined =
+    sym c.in-Some.is ∙ c.in_ok-event_heard.ensures.event ∙ ap (event_heard a.from) c.as_slice.ensures in
+    subst (λ (o : Option ServerEvent). Spends c.core_step.result (server_hears_one a.now a.k a.replied a.heard.now o x).spent) heard
+    c.core_step.ensures.spends

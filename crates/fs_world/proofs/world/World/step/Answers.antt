@@ -23,7 +23,10 @@ returns-clause-known c = elim c.match-self.branch [
       (answered_plain (Direct w.in-Direct.direct) c.args.event.now w.step.result tt w.step.ensures.outcome)
   | in-Served w ↦
       subst (λ (r : Result Outcome CoreError). IfOk r (HasNone is_link_strange)) (sym w.result-is)
-      (answered_plain (Served w.in-Served.served) c.args.event.now w.step-in-Served.result (subst LinksCarry w.in-Served.is (links_carry c.self.inside.form c.self.invariant)) (outcome_then w.step-in-Served.result w.step-in-Served.new.self (step_of w.in-Served.served c.args.event.now.reading c.args.event.now.what) w.step-in-Served.ensures.done))
+      (answered_plain (Served w.in-Served.served) c.args.event.now w.step-in-Served.result
+      (subst LinksCarry w.in-Served.is (links_carry c.self.inside.form c.self.invariant))
+      (outcome_then w.step-in-Served.result w.step-in-Served.new.self
+      (step_of w.in-Served.served c.args.event.now.reading c.args.event.now.what) w.step-in-Served.ensures.done))
 ]
 
 pub returns-clause-carried : goal.returns-clause-carried
@@ -42,5 +45,7 @@ returns-clause-within c = elim c.match-self.branch [
   | in-Served w ↦
       subst (λ (r : Result Outcome CoreError). OnOk r (IsWithin c.args.self.now c.args.event.now)) (sym w.result-is)
       (subst (λ (f : Form). OnOk w.step-in-Served.result (IsWithin f c.args.event.now)) (sym w.in-Served.is ∙ c.self.view_is)
-      (was_within w.step-in-Served.result w.step-in-Served.new.self w.in-Served.served c.args.event.now (subst (λ (f : Form). FitsWorld f c.args.event.now.what) (sym c.self.view_is ∙ w.in-Served.is) c.requires.asked) w.step-in-Served.ensures.done w.step-in-Served.ensures.linked))
+      (was_within w.step-in-Served.result w.step-in-Served.new.self w.in-Served.served c.args.event.now
+      (subst (λ (f : Form). FitsWorld f c.args.event.now.what) (sym c.self.view_is ∙ w.in-Served.is) c.requires.asked)
+      w.step-in-Served.ensures.done w.step-in-Served.ensures.linked))
 ]

@@ -11,4 +11,5 @@ returns-in-Some c = λ numbers n e b.
     let dir = c.args.dir.now in
     let now : map_of c.self.inside.next ≡ insert numbers dir n = c.self.view_is ∙ e in
     let here : Some n ≡ get (map_of c.self.inside.next) dir = sym (ap (λ (m : Numbers). get m dir) now ∙ put_here numbers dir n) in
-    c.raise_in.ensures (subst IsSome here refl) ∙ ap (λ (m : Numbers). insert m dir c.in-Some.number) now ∙ put_back numbers dir n c.in-Some.number (sym b ∙ c.in-Some.is)
+    c.raise_in.ensures (subst IsSome here refl) ∙ ap (λ (m : Numbers). insert m dir c.in-Some.number) now
+    ∙ put_back numbers dir n c.in-Some.number (sym b ∙ c.in-Some.is)

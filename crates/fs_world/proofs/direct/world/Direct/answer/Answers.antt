@@ -12,6 +12,7 @@ returns-in-Ok-clause-world c =
     let a : Answer = answer c.args.self.now.space c.args.self.now.next c.args.by c.args.op.now in
     let x : Item = record { by = Client c.args.by; n = c.args.n; op = c.in-Ok.field-0.op; reply = c.in-Ok.field-0.reply } in
     let item : x ≡ item_of c.args.by c.args.n a =
-    ap (λ (o : Op). let i : Item = record x { op = o } in i) c.in-Ok.ensures.op ∙ ap (λ (r : Reply). let i : Item = record { by = Client c.args.by; n = c.args.n; op = a.op; reply = r } in i) c.in-Ok.ensures.reply in
+    ap (λ (o : Op). let i : Item = record x { op = o } in i) c.in-Ok.ensures.op ∙ ap (λ (r : Reply). let i : Item =
+    record { by = Client c.args.by; n = c.args.n; op = a.op; reply = r } in i) c.in-Ok.ensures.reply in
     carried_by c.args.self.now c.args.by c.args.n a c.carry_out.new.self c.push.new.self c.blank.result x c.len-at.result c.put.new.journal
     c.in-Ok.ensures.world c.in_ok-push.ensures.ok c.len-at.ensures item c.put.ensures

@@ -11,11 +11,13 @@ returns-in_ok-copy-in_default c =
     let w : Direct = c.args.self.now in
     let copy = c.in_ok-copy-in_default.field-0 in
     let e : answer_of w.space w.next c.args.by copy ≡ answer w.space w.next c.args.by c.args.op.now =
-    ap (answer_of w.space w.next c.args.by) c.in_ok-copy-in_default.ensures ∙ sym (plain_answer w.space w.next c.args.by c.args.op.now c.in_default.not-Create) in
+    ap (answer_of w.space w.next c.args.by) c.in_ok-copy-in_default.ensures
+    ∙ sym (plain_answer w.space w.next c.args.by c.args.op.now c.in_default.not-Create) in
     record {
       op = IfOk-weaker c.ask.result _ _ (λ d h. h ∙ ap (λ (a : Answer). a.op) e) c.ask.ensures.op;
       reply = IfOk-weaker c.ask.result _ _ (λ d h. h ∙ ap (λ (a : Answer). a.reply) e) c.ask.ensures.reply;
       twin = IfOk-weaker c.ask.result _ _ (λ d h. h ∙ ap (λ (a : Answer). a.reply) e) c.ask.ensures.twin;
-      world = on_ok_weaker c.ask.result (λ h. ap (λ (m : NodeMap). let v : Direct = record w { space = m } in v) h ∙ ap (with_answer w) e) c.ask.ensures.space;
+      world = on_ok_weaker c.ask.result (λ h. ap (λ (m : NodeMap). let v : Direct = record w { space = m } in v) h ∙ ap (with_answer w) e)
+          c.ask.ensures.space;
       err = on_err_weaker c.ask.result (λ h. ap (λ (m : NodeMap). let v : Direct = record w { space = m } in v) h) c.ask.ensures.err;
     }

@@ -7,7 +7,8 @@ use Rattle.fs_world.proofs.servers.packets.Packets.cut_back.Goals as goal
 pub invariant_of-self : goal.invariant_of-self
 invariant_of-self c =
     let least : c.min-self-inside.result ≡ min c.self.inside.next c.args.len = c.min-self-inside.ensures in
-    rw (c.truncate.ensures, c.truncate-2.ensures, least) (marked_first c.args.len c.self.inside.sent c.self.inside.delivered c.self.inside.next c.self.invariant)
+    rw (c.truncate.ensures, c.truncate-2.ensures, least) (marked_first c.args.len c.self.inside.sent c.self.inside.delivered
+    c.self.inside.next c.self.invariant)
 
 pub returns : goal.returns
 returns c = λ p more e l.

@@ -17,12 +17,16 @@ returns-in-Some-clause-linked c =
     let state = c.in-Some.state.now in
     let x = client_acts a.now a.s a.op.now state w.journal w.packets in
     let n = c.acts.new in
-    linked_after c.acts.result (with_state w a.s n.state n.journal n.packets) (with_session a.s x w) (FitsUp (act_plan state.client a.now a.op.now).out.send)
-    (λ fits room. act_linked w a.s state a.now a.op.now (sym c.in-Some.ensures.value) c.requires.called fits (has_room (if is_act_spent state.client a.now a.op.now then Some Entries else None) (is_full_up (act_plan state.client a.now a.op.now).out.send state.post) room) c.requires.linked)
+    linked_after c.acts.result (with_state w a.s n.state n.journal n.packets) (with_session a.s x w)
+    (FitsUp (act_plan state.client a.now a.op.now).out.send)
+    (λ fits room. act_linked w a.s state a.now a.op.now (sym c.in-Some.ensures.value) c.requires.called fits
+    (has_room (if is_act_spent state.client a.now a.op.now then Some Entries else None)
+    (is_full_up (act_plan state.client a.now a.op.now).out.send state.post) room) c.requires.linked)
     (with_state_at c.acts.result w a.s n.state n.journal n.packets x c.acts.ensures.done)
     c.acts.ensures.fits
 
 pub returns-in-Some-clause-err : goal.returns-in-Some-clause-err
 returns-in-Some-clause-err c =
     let n = c.acts.new in
-    with_state_back c.acts.result c.args.self.now c.args.s c.in-Some.state.now n.state n.journal n.packets c.in-Some.ensures.value c.acts.ensures.err
+    with_state_back c.acts.result c.args.self.now c.args.s c.in-Some.state.now n.state n.journal n.packets c.in-Some.ensures.value
+    c.acts.ensures.err

@@ -7,4 +7,5 @@ pub returns-in-Some-clause-kept : goal.returns-in-Some-clause-kept
 returns-in-Some-clause-kept c =
     let w = c.args.self.now in
     let o = Some c.in-Some.p in
-    all_stay c.comes.result w c.comes.new.self (arrives c.args.now c.args.from c.args.to o w) (arrives_stays c.args.now c.args.from c.args.to o w) c.comes.ensures.done
+    all_stay c.comes.result w c.comes.new.self (arrives c.args.now c.args.from c.args.to o w)
+    (arrives_stays c.args.now c.args.from c.args.to o w) c.comes.ensures.done

@@ -22,7 +22,8 @@ returns-in_default-Server-clause-linked c =
     let a = c.args in
     let w = a.self.now in
     let x = subst (λ (q : Peer). WasSent a.from q (Some a.p.now) w.packets.sent) c.in_default-Server.is-1 c.requires.sent in
-    receive_packet_after c.server_receive_packet.result w c.server_receive_packet.new.self c.in_default-Server.k a.now a.from a.p.now x c.server_receive_packet.ensures.fits c.requires.linked c.server_receive_packet.ensures.done
+    receive_packet_after c.server_receive_packet.result w c.server_receive_packet.new.self c.in_default-Server.k a.now a.from a.p.now x
+    c.server_receive_packet.ensures.fits c.requires.linked c.server_receive_packet.ensures.done
 
 pub returns-in-Server-Client-clause-linked : goal.returns-in-Server-Client-clause-linked
 returns-in-Server-Client-clause-linked c =
@@ -32,4 +33,6 @@ returns-in-Server-Client-clause-linked c =
     let s = c.in-Server-Client.s in
     let to = subst (λ (q : Peer). WasSent a.from q (Some a.p.now) w.packets.sent) c.in-Server-Client.is-1 c.requires.sent in
     let x = subst (λ (q : Peer). WasSent q (Client s) (Some a.p.now) w.packets.sent) c.in-Server-Client.is-0 to in
-    linked_then c.client_receive_packet.result c.client_receive_packet.new.self (client_receive_packet_at (get w.sessions s.0) a.now s k a.p.now w) (receive_packet_linked w s a.now k a.p.now x c.requires.linked) c.client_receive_packet.ensures.done
+    linked_then c.client_receive_packet.result c.client_receive_packet.new.self
+    (client_receive_packet_at (get w.sessions s.0) a.now s k a.p.now w) (receive_packet_linked w s a.now k a.p.now x c.requires.linked)
+    c.client_receive_packet.ensures.done

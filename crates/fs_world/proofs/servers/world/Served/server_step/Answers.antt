@@ -14,20 +14,27 @@ tied c =
     let below : c.args.k < length c.args.self.now.posts = omega (arith, c.requires.there, c.requires.linked.posts) in
     item_there c.args.self.now.posts c.args.k c.at_mut.result.now below c.at_mut.ensures.value
 
-is_step : (c : goal.After-self-2-1) → server_step c.args.k c.args.turn c.args.now c.args.event.now c.args.self.now ≡ with_server c.args.k (core_step c.args.k c.args.turn None c.args.now c.args.event.now (at_server c.at_mut-core.result.now c.at_mut.result.now c.args.self.now)) c.args.self.now
-is_step c = step_there c.args.self.now c.args.k c.args.turn c.args.now c.args.event.now c.at_mut-core.result.now c.at_mut.result.now (there c) (tied c)
+is_step : (c : goal.After-self-2-1) → server_step c.args.k c.args.turn c.args.now c.args.event.now c.args.self.now ≡ with_server c.args.k
+    (core_step c.args.k c.args.turn None c.args.now c.args.event.now
+    (at_server c.at_mut-core.result.now c.at_mut.result.now c.args.self.now)) c.args.self.now
+is_step c = step_there c.args.self.now c.args.k c.args.turn c.args.now c.args.event.now c.at_mut-core.result.now c.at_mut.result.now
+    (there c) (tied c)
 
 abbrev new : (c : goal.After-self-2-1) → Served
 new c =
     let n = c.core_step.new in
     served_by c.args.self.now c.args.k n.core n.post n.sessions n.in_flight n.journal n.packets
 
-done : (c : goal.After-self-2-1) → IfOk c.core_step.result (λ outcome. world_left outcome (new c) ≡ server_step c.args.k c.args.turn c.args.now c.args.event.now c.args.self.now)
+done : (c : goal.After-self-2-1)
+    → IfOk c.core_step.result (λ outcome. world_left outcome (new c) ≡ server_step c.args.k c.args.turn c.args.now c.args.event.now
+    c.args.self.now)
 done c =
     let a = c.args in
     let n = c.core_step.new in
     subst (λ (y : Stepped). IfOk c.core_step.result (λ outcome. world_left outcome (new c) ≡ y)) (sym (is_step c))
-    (served_at c.core_step.result a.self.now a.k n.core n.post n.sessions n.in_flight n.journal n.packets (core_step a.k a.turn None a.now a.event.now (at_server c.at_mut-core.result.now c.at_mut.result.now a.self.now)) c.core_step.ensures.done)
+    (served_at c.core_step.result a.self.now a.k n.core n.post n.sessions n.in_flight n.journal n.packets
+    (core_step a.k a.turn None a.now a.event.now (at_server c.at_mut-core.result.now c.at_mut.result.now a.self.now))
+    c.core_step.ensures.done)
 
 pub returns-clause-done : goal.returns-clause-done
 returns-clause-done c = done c
@@ -35,7 +42,8 @@ returns-clause-done c = done c
 pub returns-clause-linked : goal.returns-clause-linked
 returns-clause-linked c =
     let a = c.args in
-    own_after c.core_step.result a.self.now (new c) a.k a.turn a.now a.event.now c.at_mut-core.result.now c.at_mut.result.now (there c) (tied c) c.requires.own c.requires.linked (done c) c.core_step.ensures.fits
+    own_after c.core_step.result a.self.now (new c) a.k a.turn a.now a.event.now c.at_mut-core.result.now c.at_mut.result.now (there c)
+    (tied c) c.requires.own c.requires.linked (done c) c.core_step.ensures.fits
 
 pub returns-clause-spends : goal.returns-clause-spends
 returns-clause-spends c = rw (is_step c) c.core_step.ensures.spends

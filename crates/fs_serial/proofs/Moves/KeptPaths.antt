@@ -1,0 +1,103 @@
+-- An event that is no word of a transaction, no message of path leases and no move leaves the server's paths as they are.
+use Rattle.std.proofs.Common.{◌≡◌, ℕ, Bool, true, false, List, [], ◌∷◌, cond, refl, ap, ◌∙◌}
+use Rattle.std.specs.Prelude.{Option, Some, None}
+use Rattle.std.specs.List.{list_all}
+use Rattle.fs_field.specs.Table.{borne_numbers}
+use Rattle.fs_field.specs.declared.field.Field.{Field}
+use Rattle.fs_field.specs.declared.lease_kind.LeaseKind.{LeaseKind}
+use Rattle.fs_ident.specs.declared.actor.Session.{Session}
+use Rattle.fs_msg.specs.declared.client_msg.ClientMsg.TheVariants.{Ask, Renew, Release, Ship, Lead}
+use Rattle.fs_msg.specs.declared.end.End.{End}
+use Rattle.fs_msg.specs.declared.end.End.TheVariants as end
+use Rattle.fs_msg.specs.declared.entry.Entry.{Entry}
+use Rattle.fs_msg.specs.declared.peer_msg.PeerMsg.TheVariants as peer
+use Rattle.fs_path.specs.Tables.{PathTables}
+use Rattle.fs_record.specs.Effects.{tells_its_effects}
+use Rattle.fs_record.specs.Fresh.{fresh_number, is_directory}
+use Rattle.fs_record.specs.declared.parcel.Parcel.{Parcel}
+use Rattle.fs_server.specs.Asks.{Asking, ask_fresh, ask_from, fresh_for, fresh_in, fresh_of}
+use Rattle.fs_server.specs.Moves.{fits_here, parcel_at}
+use Rattle.fs_server.specs.Reaps.{lapsed_in, turn_over}
+use Rattle.fs_server.specs.Server.{is_mine, moved, strange}
+use Rattle.fs_server.specs.Ships.{ship_from, shipped}
+use Rattle.fs_server.specs.Step.{event_step}
+use Rattle.fs_server.specs.declared.event.ServerEvent.{ServerEvent}
+use Rattle.fs_server.specs.declared.event.ServerEvent.TheVariants as event
+use Rattle.fs_server.specs.declared.state.Server.{Server}
+use Rattle.fs_server.proofs.OneByOne.{asks_leave, reaps_leave, ships_leave}
+use Rattle.fs_serial.specs.Paths.{IsNoPath}
+use Rattle.fs_serial.specs.Seen.{HasNoPaths}
+use Rattle.fs_serial.specs.Words.{IsNoneOfLed}
+
+-- a server with the same paths has none where the other has none
+pub pathless_still : (s t : Server) → t.paths ≡ s.paths → HasNoPaths s → HasNoPaths t
+pathless_still s t e none = (ap (λ (p : PathTables). p.issued) e ∙ none.0, ap (λ (p : PathTables). p.held) e ∙ none.1)
+
+-- ## A question
+
+fresh_paths : (by : Session) (dir : List ℕ) (o : Option ℕ) (a : Asking) → (fresh_of by dir o a).server.paths ≡ a.server.paths
+fresh_paths by dir None a = refl
+fresh_paths by dir (Some n) a = refl
+
+dir_paths : (by : Session) (dir : List ℕ) (b : Bool) (a : Asking) → (fresh_in by dir b a).server.paths ≡ a.server.paths
+dir_paths by dir true a = fresh_paths by dir (fresh_number a.server.records dir (borne_numbers dir a.server.rows)) a
+dir_paths by dir false a = refl
+
+for_paths : (by : Session) (dir : Option (List ℕ)) (a : Asking) → (fresh_for by dir a).server.paths ≡ a.server.paths
+for_paths by None a = refl
+for_paths by (Some dir) a = elim (is_mine a.server dir) as
+    (λ b. (let z : Asking = cond b (fresh_in by dir (is_directory a.server.records dir) a)
+    (record a { end = moved a.server dir }) in z).server.paths ≡ a.server.paths) [
+      | true ↦ dir_paths by dir (is_directory a.server.records dir) a
+      | false ↦ refl
+    ]
+
+end_paths : (by : Session) (dir : Option (List ℕ)) (e : End) (a : Asking) → (ask_fresh by dir e a).server.paths ≡ a.server.paths
+end_paths by dir end.All a = for_paths by dir a
+end_paths by dir e a = refl
+
+ask_paths : (by : Session) (items : List (Field × LeaseKind)) (dir : Option (List ℕ)) (s : Server)
+    → (event_step (event.FromClient by (Ask items dir)) s).server.paths ≡ s.paths
+ask_paths by items dir s =
+    let a : Asking = ask_from by items s [] in
+    end_paths by dir a.end a ∙ ap (λ (t : Server). t.paths) (asks_leave by items s [])
+
+-- ## Every event
+
+ship_paths : (by : Session) (es : List Entry) (s : Server) (b : Bool)
+    → (cond b (shipped by (ship_from by es s [])) (strange s)).server.paths ≡ s.paths
+ship_paths by es s true = ap (λ (t : Server). t.paths) (ships_leave by es s [])
+ship_paths by es s false = refl
+
+turn_paths : (xs : List (List ℕ × Session)) (s : Server) → (turn_over xs s).server.paths ≡ s.paths
+turn_paths [] s = refl
+turn_paths (x ∷ xs) s = ap (λ (t : Server). t.paths) (reaps_leave (x ∷ xs) s [] [])
+
+parcel_paths : (b : Bool) (p : Parcel) (s : Server) → (parcel_at b p s).server.paths ≡ s.paths
+parcel_paths true p s = refl
+parcel_paths false p s = refl
+
+-- no message of path leases, and no move
+abbrev pub IsOffPaths : ServerEvent → Type 0
+IsOffPaths (event.FromPeer from m) = IsNoPath m
+IsOffPaths (event.Move prefix to) = ⊥
+IsOffPaths e = Unit {0}
+
+pub event_paths : (e : ServerEvent) (s : Server) → IsNoneOfLed e → IsOffPaths e → (event_step e s).server.paths ≡ s.paths
+event_paths (event.FromClient by (Ask items dir)) s none off = ask_paths by items dir s
+event_paths (event.FromClient by (Renew pairs)) s none off = refl
+event_paths (event.FromClient by (Release pairs)) s none off = refl
+event_paths (event.FromClient by (Ship es)) s none off = ship_paths by es s (list_all (λ (e : Entry). tells_its_effects e.op) es)
+event_paths (event.FromClient by (Lead m)) s none off = absurd none
+event_paths (event.FromPeer from (peer.Parcel p)) s none off = parcel_paths (fits_here p s) p s
+event_paths (event.FromPeer from (peer.Prepare m)) s none off = absurd (cc none)
+event_paths (event.FromPeer from (peer.Vote m)) s none off = absurd (cc none)
+event_paths (event.FromPeer from (peer.Decide m)) s none off = absurd (cc none)
+event_paths (event.FromPeer from (peer.Done m)) s none off = absurd (cc none)
+event_paths (event.FromPeer from m) s none off = absurd off
+event_paths event.Turn s none off = turn_paths (lapsed_in s) s
+event_paths (event.Recall field) s none off = refl
+event_paths (event.Move prefix to) s none off = absurd off
+
+pub event_pathless : (e : ServerEvent) (s : Server) → IsNoneOfLed e → IsOffPaths e → HasNoPaths s → HasNoPaths (event_step e s).server
+event_pathless e s none off = pathless_still s (event_step e s).server (event_paths e s none off)

@@ -1,0 +1,27 @@
+-- Path leases over all servers.
+pub mod Chains
+pub mod Taken
+pub mod OnChains
+pub mod Kept
+pub mod Alike
+pub mod SameSpace
+pub mod Given
+pub mod Returned
+pub mod Truth
+pub mod Others
+pub mod Counting
+pub mod Tokens
+pub mod Returning
+pub mod AskedBack
+pub mod CameBack
+pub mod Came
+pub mod Denied
+pub mod Issued
+pub mod Asked
+pub mod Messages
+pub mod Together
+pub mod First
+pub mod OnTheWay
+pub mod Standing
+pub mod SourceParts
+pub mod Source
