@@ -4,10 +4,12 @@
 
 ghost use Rattle.std.specs.Prelude.{◌≡◌, true, IfOk};
 ghost use Rattle.fs_msg.specs.Prefixes.{IsMessage};
+ghost use Rattle.fs_msg.specs.Ranges.{FitsMessage};
+ghost use Rattle.fs_msg.specs.Spelling.{message};
 
 use fs_ident::Memory;
 use fs_io::{read_all, standard_input};
-use fs_msg::{Msg, read_whole, write};
+use fs_msg::{Msg, MsgError, read_whole, write};
 use std::alloc::Global;
 use std::env;
 use std::process::ExitCode;
@@ -56,23 +58,34 @@ fn is_spelled_again(alloc: Global, bytes: &[u8], times: u32) -> Result<bool, Mem
 fn round(alloc: Global, bytes: &[u8], out: &mut Vec<u8>) -> Result<bool, Memory>
     ensures { IfOk result (λ again. again ≡ true → IsMessage bytes.now) }
 {
-    match read_whole(alloc, bytes) {
-        Ok(message) => is_written_as(alloc, &message, bytes, out),
+    let read = read_whole(alloc, bytes);
+    let again = is_written_again(alloc, &read, bytes, out);
+    drop(read);
+    again
+}
+
+/// Whether a message was read, and is written as these bytes.
+fn is_written_again(
+    alloc: Global,
+    read: &Result<Msg, MsgError>,
+    bytes: &[u8],
+    out: &mut Vec<u8>,
+) -> Result<bool, Memory>
+    requires { IfOk read.now (λ m. FitsMessage m × (bytes.now ≡ message m)) }
+    ensures { IfOk result (λ again. again ≡ true → IsMessage bytes.now) }
+{
+    match read {
+        Ok(m) => is_written_as(alloc, m, bytes, out),
         Err(_) => Ok(false),
     }
 }
 
 /// Whether the message is written as these bytes.
-fn is_written_as(
-    alloc: Global,
-    message: &Msg,
-    bytes: &[u8],
-    out: &mut Vec<u8>,
-) -> Result<bool, Memory>
-    ensures { IfOk result (λ again. again ≡ true → IsMessage bytes.now) }
+fn is_written_as(alloc: Global, m: &Msg, bytes: &[u8], out: &mut Vec<u8>) -> Result<bool, Memory>
+    ensures { IfOk result (λ same. same ≡ true → bytes.now ≡ message m.now) }
 {
     out.clear();
-    write(alloc, message, out)?;
+    write(alloc, m, out)?;
     Ok(out.as_slice() == bytes)
 }
 

@@ -2,10 +2,10 @@
 ghost use Rattle.std.specs.Prelude.{◌≡◌, ◌≤◌, IfOk};
 
 use fs_field::{Field, LeaseKind, Use};
-use fs_ident::{FileId, Kind, LeaseNo, List, Memory, Name, Session, Twin};
+use fs_ident::{FileId, Kind, LeaseNo, List, Memory, Name, Peer, Session, Twin, zip_ok};
 use fs_model::{Op, Reply};
 use fs_msg::{Answer, ClientMsg, CoreError, Entry, Grant, Msg};
-use fs_server::{ServerCore, ServerEvent};
+use fs_server::{ServerCore, ServerEvent, ServerOut};
 use std::alloc::Global;
 
 /// How many files a directory gets.
@@ -21,24 +21,31 @@ const SESSION: Session = Session(1);
 /// A server gets so many files, and then so many questions or so many files more.
 pub fn run(alloc: Global, files: u32, rounds: u32, makes: bool) -> Result<(), CoreError> {
     let mut server = ServerCore::new(alloc, 0, 0, TERM)?;
+    let done = run_at(alloc, &mut server, files, rounds, makes);
+    drop(server);
+    done
+}
+
+/// The same, at this server.
+fn run_at(
+    alloc: Global,
+    server: &mut ServerCore,
+    files: u32,
+    rounds: u32,
+    makes: bool,
+) -> Result<(), CoreError> {
     let mut dir = FileId::root(alloc);
     for k in 0..files {
         if k % IN_DIRECTORY == 0 {
-            dir = made(alloc, &mut server, &FileId::root(alloc), k, Kind::Dir)?;
+            dir = made(alloc, server, &FileId::root(alloc), k, Kind::Dir)?;
         }
-        made(alloc, &mut server, &dir, k, Kind::File)?;
+        made(alloc, server, &dir, k, Kind::File)?;
     }
     for k in 0..rounds {
         if makes {
-            made(
-                alloc,
-                &mut server,
-                &dir,
-                k.saturating_add(files),
-                Kind::File,
-            )?;
+            made(alloc, server, &dir, k.saturating_add(files), Kind::File)?;
         } else {
-            asked(alloc, &mut server, &dir, k)?;
+            asked(alloc, server, &dir, k)?;
         }
     }
     Ok(())
@@ -72,7 +79,7 @@ fn made(
     };
     let mut entries = List::new(alloc);
     entries.push(entry)?;
-    told(alloc, server, ClientMsg::Ship { entries })?;
+    hears(alloc, server, ClientMsg::Ship { entries })?;
     released(alloc, server, grants.as_slice())?;
     Ok(fresh)
 }
@@ -93,18 +100,36 @@ fn granted(
         items,
         fresh: Some(dir.copy(alloc)?),
     };
-    match told(alloc, server, ask)? {
-        Some(
-            Answer::Granted {
-                grants,
-                fresh,
-                end: _,
-            },
-        ) => match fresh {
-            Some(id) => Ok((grants, id)),
-            None => Ok((grants, FileId::root(alloc))),
-        },
+    let out = told(alloc, server, ask)?;
+    let given = given(alloc, out.send.as_slice());
+    drop(out);
+    Ok(given?)
+}
+
+/// Copies of the leases that the last message gives, and of the fresh identifier.
+fn given(alloc: Global, send: &[(Peer, Msg)]) -> Result<(List<Grant>, FileId), Memory> {
+    match send.last() {
+        Some((_, Msg::Answer(answer))) => given_by(alloc, answer),
         _ => Ok((List::new(alloc), FileId::root(alloc))),
+    }
+}
+
+fn given_by(alloc: Global, answer: &Answer) -> Result<(List<Grant>, FileId), Memory> {
+    match answer {
+        Answer::Granted {
+            grants,
+            fresh,
+            end: _,
+        } => zip_ok(grants.copy(alloc)?, id_or_root(alloc, fresh)),
+        _ => Ok((List::new(alloc), FileId::root(alloc))),
+    }
+}
+
+/// A copy of the identifier, or the root.
+fn id_or_root(alloc: Global, id: &Option<FileId>) -> Result<FileId, Memory> {
+    match id {
+        Some(id) => id.copy(alloc),
+        None => Ok(FileId::root(alloc)),
     }
 }
 
@@ -114,22 +139,25 @@ fn released(alloc: Global, server: &mut ServerCore, grants: &[Grant]) -> Result<
     for grant in grants {
         pairs.push((grant.field.file().copy(alloc)?, grant.no))?;
     }
-    told(alloc, server, ClientMsg::Release { pairs })?;
+    hears(alloc, server, ClientMsg::Release { pairs })
+}
+
+/// The server is told the message, and what it sends is let go.
+fn hears(alloc: Global, server: &mut ServerCore, message: ClientMsg) -> Result<(), CoreError> {
+    drop(told(alloc, server, message)?);
     Ok(())
 }
 
-/// What the server answers to the message.
+/// What comes of the message at the server.
 fn told(
     alloc: Global,
     server: &mut ServerCore,
     message: ClientMsg,
-) -> Result<Option<Answer>, CoreError> {
+) -> Result<ServerOut, CoreError> {
     let event = ServerEvent::FromClient(SESSION, message);
-    let out = server.step(alloc, NOW, &event)?;
-    match out.send.into_vec().pop() {
-        Some((_, Msg::Answer(answer))) => Ok(Some(answer)),
-        _ => Ok(None),
-    }
+    let out = server.step(alloc, NOW, &event);
+    drop(event);
+    out
 }
 
 /// The leases as an entry names them.

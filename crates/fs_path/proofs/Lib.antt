@@ -1,5 +1,8 @@
 mod Steps
+mod Rising
+mod ByFile
+mod Over
 mod Placing
-mod Going
+mod LeaseLaws
 pub mod Meeting
 mod Walking

@@ -10,7 +10,7 @@ use Rattle.fs_field.specs.declared.path.PathAnswer.TheVariants.{Path}
 use Rattle.fs_map.specs.Map.{Owners}
 use Rattle.fs_model.specs.Sound.{parent_of}
 use Rattle.fs_record.specs.Records.{RecordMap, node_of}
-use Rattle.fs_path.specs.Leases.{PathLease, goes_into, goes_over, has_no, told}
+use Rattle.fs_path.specs.Leases.{PathLease, goes_into, goes_over, has_no, named_to_peer}
 use Rattle.fs_path.specs.Numbers.{next_path}
 use Rattle.fs_path.specs.Returns.{asked_back, held_after, is_needed, releases, without_no, without_txn}
 use Rattle.fs_path.specs.Tables.{PathTables, first_in, frozen_for, is_leaving, lease_of, through, with_frozen, with_issued}
@@ -66,7 +66,7 @@ LeavingIsUsedForNothing = (t : PathTables) (m : RecordMap) (file : List ℕ) →
 abbrev pub WhatGoesIsOnNoPath : Type 0
 WhatGoesIsOnNoPath =
     (asked : Having → Bool) (issued : List PathLease) (held : List Having) (x : ℕ × PathNo) → In x (releases asked issued held)
-    → (h : Having) × (In h held × ((asked h ≡ true) × ((is_needed issued h ≡ false) × (x ≡ told (lease_of h)))))
+    → (h : Having) × (In h held × ((asked h ≡ true) × ((is_needed issued h ≡ false) × (x ≡ named_to_peer (lease_of h)))))
 
 -- one whose file such a path goes over stays
 abbrev pub WhatIsNeededStays : Type 0

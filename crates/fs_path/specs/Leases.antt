@@ -35,9 +35,9 @@ goes_over file l = list_any (λ f. same f file) l.path
 abbrev pub goes_into : Owners → ℕ → List ℕ → PathLease → Bool
 goes_into owners me prefix l = list_any (λ f. is_given owners me prefix f) l.path
 
--- how others are told of the lease: its server and its number
-abbrev pub told : PathLease → ℕ × PathNo
-told l = (l.peer, l.no)
+-- how the lease is named to the server at its other end: that server, and the number
+abbrev pub named_to_peer : PathLease → ℕ × PathNo
+named_to_peer l = (l.peer, l.no)
 
 -- of two numbers, each of which may be wanting, the lesser
 abbrev pub lesser_no : Option PathNo → Option PathNo → Option PathNo

@@ -6,3 +6,4 @@ pub mod Numbers
 pub mod Laws
 -- cited by private calls alone
 pub mod Asked
+pub mod Index

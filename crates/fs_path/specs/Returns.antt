@@ -5,7 +5,7 @@ use Rattle.fs_field.specs.Table.{same_txn}
 use Rattle.fs_ident.specs.declared.actor.PathNo.{PathNo}
 use Rattle.fs_ident.specs.declared.actor.TxnNo.{TxnNo}
 use Rattle.fs_map.specs.Map.{Owners}
-use Rattle.fs_path.specs.Leases.{PathLease, goes_into, goes_over, has_no, told}
+use Rattle.fs_path.specs.Leases.{PathLease, goes_into, goes_over, has_no, named_to_peer}
 use Rattle.fs_path.specs.Tables.{PathTables, is_leaving, lease_of, leaving}
 use Rattle.fs_path.specs.declared.having.Having.{Having}
 use Rattle.fs_path.specs.declared.recalled.Recalled.{Recalled}
@@ -26,7 +26,7 @@ goes_back asked issued h = asked h && not (is_needed issued h)
 
 -- the leases that go back, as their servers are told
 abbrev pub releases : (Having → Bool) → List PathLease → List Having → List (ℕ × PathNo)
-releases asked issued held = map (λ h. told (lease_of h)) (filter (goes_back asked issued) held)
+releases asked issued held = map (λ h. named_to_peer (lease_of h)) (filter (goes_back asked issued) held)
 
 -- the leases that are left
 abbrev pub held_after : (Having → Bool) → List PathLease → List Having → List Having
@@ -38,7 +38,7 @@ rests_on_asked asked held l = list_any (λ h. asked h && goes_over (lease_of h).
 
 -- those given out that pass the test, as those who have them are told
 abbrev pub recalls : (PathLease → Bool) → List PathLease → List (ℕ × PathNo)
-recalls test issued = map told (filter test issued)
+recalls test issued = map named_to_peer (filter test issued)
 
 -- ## A lease is asked back by its number
 

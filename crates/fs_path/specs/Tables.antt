@@ -1,5 +1,5 @@
 -- What a server keeps of path leases.
-use Rattle.std.specs.Prelude.{ℕ, Bool, true, false, ◌==◌, ◌&&◌, not, List, [], ◌∷◌, Option, option_map}
+use Rattle.std.specs.Prelude.{ℕ, Bool, true, false, ◌&&◌, not, List, [], ◌∷◌, Option, option_map}
 use Rattle.std.specs.List.{find, list_any}
 use Rattle.fs_ident.specs.Ident.{same}
 use Rattle.fs_ident.specs.Ordered.{put_before}
@@ -73,6 +73,11 @@ first_in owners me prefix t =
 abbrev pub with_frozen : List ℕ → TxnNo → List (List ℕ × TxnNo) → List (List ℕ × TxnNo)
 with_frozen file txn frozen =
     put_before (λ x. comes_before (txn.server, txn.count) (x.1.server, x.1.count)) (file, txn) frozen
+
+-- these, one behind the other
+abbrev pub with_all_frozen : TxnNo → List (List ℕ) → List (List ℕ × TxnNo) → List (List ℕ × TxnNo)
+with_all_frozen txn [] frozen = frozen
+with_all_frozen txn (f ∷ fs) frozen = with_all_frozen txn fs (with_frozen f txn frozen)
 
 -- the least transaction that keeps the file
 abbrev pub frozen_for : List ℕ → List (List ℕ × TxnNo) → Option TxnNo

@@ -2,10 +2,12 @@
 ghost use Rattle.std.specs.Prelude.{◌≡◌};
 ghost use Rattle.std.specs.List.{list_any};
 ghost use Rattle.fs_path.specs.Asked.{asks, asks_issued};
+ghost use Rattle.fs_path.specs.Index.{IsOver};
 ghost use Rattle.fs_path.specs.Leases.{goes_over};
 ghost use Rattle.fs_path.specs.Returns.{goes_back, is_needed, rests_on_asked};
 
 use crate::having::Having;
+use crate::index::FileIndex;
 use crate::issued::Issued;
 use fs_ident::{FileId, PathNo};
 use fs_map::FileMap;
@@ -57,23 +59,37 @@ impl<'a> Asked<'a> {
     }
 
     /// Whether the lease is asked back and nothing that was given out needs it.
-    pub fn frees(&self, h: &Having, issued: &[Issued]) -> bool
+    pub fn frees(&self, h: &Having, issued: &[Issued], over: &FileIndex) -> bool
+        requires { IsOver over.now issued.now }
         ensures { result ≡ goes_back (asks self.now) issued.now h.now }
     {
-        self.asks(h) && !is_needed(issued, h)
+        self.asks(h) && !is_needed(issued, over, h)
     }
 }
 
 /// Whether a path that was given out goes over the lease's file.
-pub(crate) fn is_needed(issued: &[Issued], h: &Having) -> bool
+pub(crate) fn is_needed(issued: &[Issued], over: &FileIndex, h: &Having) -> bool
+    requires { IsOver over.now issued.now }
     ensures { result ≡ is_needed issued.now h.now }
 {
-    any_over(issued, h.file())
+    any_over(issued, over, h.file())
 }
 
 /// Whether one of these paths goes over the file.
+fn any_over(issued: &[Issued], over: &FileIndex, file: &FileId) -> bool
+    requires { IsOver over.now issued.now }
+    ensures { result ≡ list_any (goes_over file.now) issued.now }
+{
+    if over.is_whole() {
+        !over.at(file).is_empty()
+    } else {
+        walk_over(issued, file)
+    }
+}
+
+/// The same, path after path.
 #[tactic(auto, using(crate::proofs::Steps::any_step))]
-fn any_over(issued: &[Issued], file: &FileId) -> bool
+fn walk_over(issued: &[Issued], file: &FileId) -> bool
     ensures { result ≡ list_any (goes_over file.now) issued.now }
 {
     for l in issued {

@@ -1,7 +1,8 @@
 //! Leases that are asked back: who is told, and which go.
-ghost use Rattle.std.specs.Prelude.{◌≡◌, ◌<◌, ◌||◌, not, map, length, slice_index_or, slice_set, vec_len, IfOk};
+ghost use Rattle.std.specs.Prelude.{◌≡◌, true, ◌<◌, ◌||◌, not, map, length, slice_index_or, slice_set, vec_len, IfOk};
 ghost use Rattle.std.specs.List.{filter, list_any};
 ghost use Rattle.fs_path.specs.Asked.{asks, asks_issued};
+ghost use Rattle.fs_path.specs.Index.{IsOver, has_other};
 ghost use Rattle.fs_path.specs.Leases.{goes_over};
 ghost use Rattle.fs_path.specs.Returns.{asked_back, goes_back, held_after, recalls, releases, rests_on_asked, without_no};
 ghost use Rattle.fs_path.specs.Tables.{is_leaving, leaving};
@@ -9,13 +10,33 @@ ghost use Rattle.fs_path.specs.declared.having.Having.{Having as TheHaving};
 
 use crate::asked::Asked;
 use crate::having::Having;
+use crate::index::FileIndex;
 use crate::issued::Issued;
+use crate::numbered::place_of_issued;
+use crate::reads::copy_names;
 use fs_ident::{FileId, List, Memory, PathNo};
 use std::alloc::Global;
 
 /// Those given out whose path goes over the file, as their holders are told.
-#[tactic(auto, using(crate::proofs::Steps::filter_step))]
 pub(crate) fn recalls_over(
+    alloc: Global,
+    issued: &[Issued],
+    over: &FileIndex,
+    file: &FileId,
+) -> Result<List<(u8, PathNo)>, Memory>
+    requires { IsOver over.now issued.now }
+    ensures { IfOk result (λ list. list ≡ recalls (goes_over file.now) issued.now) }
+{
+    if over.is_whole() {
+        copy_names(alloc, over.at(file))
+    } else {
+        walk_recalls_over(alloc, issued, file)
+    }
+}
+
+/// The same, path after path.
+#[tactic(auto, using(crate::proofs::Steps::filter_step))]
+fn walk_recalls_over(
     alloc: Global,
     issued: &[Issued],
     file: &FileId,
@@ -25,7 +46,7 @@ pub(crate) fn recalls_over(
     let mut list = List::new(alloc);
     for l in issued {
         if l.goes_over(file) {
-            list.push(l.told())?;
+            list.push(l.named_to_peer())?;
         }
     }
     Ok(list)
@@ -46,7 +67,7 @@ pub(crate) fn recalls(
     let mut list = List::new(alloc);
     for l in issued {
         if asked.asks_issued(l) || asked.stands_under(held, l) {
-            list.push(l.told())?;
+            list.push(l.named_to_peer())?;
         }
     }
     Ok(list)
@@ -57,15 +78,17 @@ pub(crate) fn recalls(
 pub(crate) fn releases(
     alloc: Global,
     issued: &[Issued],
+    over: &FileIndex,
     held: &[Having],
     asked: &Asked<'_>,
 ) -> Result<List<(u8, PathNo)>, Memory>
+    requires { IsOver over.now issued.now }
     ensures { IfOk result (λ list. list ≡ releases (asks asked.now) issued.now held.now) }
 {
     let mut list = List::new(alloc);
     for h in held {
-        if asked.frees(h, issued) {
-            list.push(h.told())?;
+        if asked.frees(h, issued, over) {
+            list.push(h.named_to_peer())?;
         }
     }
     Ok(list)
@@ -76,23 +99,50 @@ pub(crate) fn releases(
 pub(crate) fn releases_but(
     alloc: Global,
     issued: &[Issued],
+    over: &FileIndex,
     held: &[Having],
     no: PathNo,
 ) -> Result<List<(u8, PathNo)>, Memory>
+    requires { IsOver over.now issued.now }
     ensures { IfOk result (λ list. list ≡ releases is_leaving (without_no no issued.now) held.now) }
 {
     let mut list = List::new(alloc);
     for h in held {
-        if h.is_leaving() && !any_over_but(issued, no, h.file()) {
-            list.push(h.told())?;
+        if h.is_leaving() && !any_over_but(issued, over, no, h.file()) {
+            list.push(h.named_to_peer())?;
         }
     }
     Ok(list)
 }
 
 /// Whether one of these paths goes over the file, but for those of this number.
+fn any_over_but(issued: &[Issued], over: &FileIndex, no: PathNo, file: &FileId) -> bool
+    requires { IsOver over.now issued.now }
+    ensures { result ≡ list_any (goes_over file.now) (without_no no issued.now) }
+{
+    if over.is_whole() {
+        has_other(over.at(file), no)
+    } else {
+        walk_over_but(issued, no, file)
+    }
+}
+
+/// Whether one of the names has another number. No two have one, so it looks at two at most.
 #[tactic(auto, using(crate::proofs::Steps::any_step))]
-fn any_over_but(issued: &[Issued], no: PathNo, file: &FileId) -> bool
+fn has_other(names: &[(u8, PathNo)], no: PathNo) -> bool
+    ensures { result ≡ has_other no names.now }
+{
+    for name in names {
+        if name.1 != no {
+            return true;
+        }
+    }
+    false
+}
+
+/// The same as by the index, path after path.
+#[tactic(auto, using(crate::proofs::Steps::any_step))]
+fn walk_over_but(issued: &[Issued], no: PathNo, file: &FileId) -> bool
     ensures { result ≡ list_any (goes_over file.now) (without_no no issued.now) }
 {
     for l in issued {
@@ -104,21 +154,28 @@ fn any_over_but(issued: &[Issued], no: PathNo, file: &FileId) -> bool
 }
 
 /// Lets go what goes back; the others that are asked back are leaving.
-pub(crate) fn give_back(held: &mut Vec<Having>, issued: &[Issued], asked: &Asked<'_>)
+pub(crate) fn give_back(
+    held: &mut Vec<Having>,
+    issued: &[Issued],
+    over: &FileIndex,
+    asked: &Asked<'_>,
+)
+    requires { IsOver over.now issued.now }
     ensures { held.new.items ≡ held_after (asks asked.now) issued.now held.old.items }
 {
-    let_go(held, issued, asked);
+    let_go(held, issued, over, asked);
     leave_all(held, asked);
 }
 
 /// Lets go what goes back.
-fn let_go(held: &mut Vec<Having>, issued: &[Issued], asked: &Asked<'_>)
+fn let_go(held: &mut Vec<Having>, issued: &[Issued], over: &FileIndex, asked: &Asked<'_>)
+    requires { IsOver over.now issued.now }
     ensures { held.new.items ≡
         filter (λ h. not (goes_back (asks asked.now) issued.now h)) held.old.items }
 {
     let mut at = 0;
     while at < held.len() {
-        if asked.frees(&held[at], issued) {
+        if asked.frees(&held[at], issued, over) {
             held.remove(at).released();
         } else {
             at += 1;
@@ -154,7 +211,37 @@ fn leave_at(held: &mut Vec<Having>, at: usize)
 }
 
 /// Spends the leases given out that have the number.
-pub(crate) fn drop_issued(issued: &mut Vec<Issued>, no: PathNo)
+pub(crate) fn drop_issued(issued: &mut Vec<Issued>, over: &mut FileIndex, no: PathNo)
+    requires { IsOver over.old issued.old.items }
+    ensures issued { issued.new.items ≡ without_no no issued.old.items }
+    ensures index { IsOver over.new issued.new.items }
+{
+    if over.is_whole() {
+        drop_found(issued, over, no);
+    } else {
+        walk_drop(issued, no);
+    }
+}
+
+/// Spends the one of the number, which is given out no more.
+fn drop_found(issued: &mut Vec<Issued>, over: &mut FileIndex, no: PathNo)
+    requires whole { over.old.whole ≡ true }
+    requires index { IsOver over.old issued.old.items }
+    ensures issued { issued.new.items ≡ without_no no issued.old.items }
+    ensures index { IsOver over.new issued.new.items }
+{
+    match place_of_issued(issued, no) {
+        Some(at) => {
+            let l = issued.remove(at);
+            over.forget(l.path().as_slice(), no);
+            l.released();
+        }
+        None => {}
+    }
+}
+
+/// The same as by the index, lease after lease.
+fn walk_drop(issued: &mut Vec<Issued>, no: PathNo)
     ensures { issued.new.items ≡ without_no no issued.old.items }
 {
     let mut at = 0;

@@ -1,6 +1,6 @@
 //! A path lease from another server, in one of its states.
 ghost use Rattle.std.specs.Prelude.{◌≡◌, option_map};
-ghost use Rattle.fs_path.specs.Leases.{goes_into, told};
+ghost use Rattle.fs_path.specs.Leases.{goes_into, named_to_peer};
 ghost use Rattle.fs_path.specs.Tables.{is_leaving, lease_of, leaving, serves};
 
 use crate::files::goes_into;
@@ -32,8 +32,8 @@ impl Having {
     }
 
     /// The server that gave it, and its number.
-    pub fn told(&self) -> (u8, PathNo)
-        ensures { result ≡ told (lease_of self.now) }
+    pub fn named_to_peer(&self) -> (u8, PathNo)
+        ensures { result ≡ named_to_peer (lease_of self.now) }
     {
         match self {
             Having::Held(held) => (held.from(), held.no()),

@@ -1,6 +1,6 @@
 //! A path lease that a server gave out.
 ghost use Rattle.std.specs.Prelude.{◌≡◌};
-ghost use Rattle.fs_path.specs.Leases.{goes_into, goes_over, told};
+ghost use Rattle.fs_path.specs.Leases.{goes_into, goes_over, named_to_peer};
 
 use crate::files::{goes_into, goes_over};
 use fs_ident::{FileId, List, Memory, PathNo, Twin, copy_two};
@@ -48,10 +48,17 @@ impl Issued {
     }
 
     /// The server that has it, and its number.
-    pub fn told(&self) -> (u8, PathNo)
-        ensures { result ≡ told self.now }
+    pub fn named_to_peer(&self) -> (u8, PathNo)
+        ensures { result ≡ named_to_peer self.now }
     {
         (self.to, self.no)
+    }
+
+    /// The files from the root down to its own.
+    pub fn path(&self) -> &List<FileId>
+        ensures { result.now ≡ self.now.path }
+    {
+        &self.path
     }
 
     /// Whether its path goes over the file.

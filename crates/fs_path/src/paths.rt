@@ -3,15 +3,16 @@ ghost use Rattle.std.specs.Prelude.{◌≡◌, ◌↔◌, IfOk, IfErr, OnOk, OnE
 ghost use Rattle.std.specs.FinMap as map;
 ghost use Rattle.fs_path.specs.Leases.{goes_over};
 ghost use Rattle.fs_path.specs.Returns.{after_give_back, after_recalled, after_released, give_back, recalled, recalls, releases, without_no, without_txn};
-ghost use Rattle.fs_path.specs.Tables.{first_in, frozen_for, holds, is_leaving, issued_to, no_paths, through, with_frozen, with_held, with_issued};
+ghost use Rattle.fs_path.specs.Tables.{first_in, frozen_for, holds, is_leaving, issued_to, no_paths, through, with_all_frozen, with_frozen, with_held, with_issued};
 ghost use Rattle.fs_path.specs.Walk.{path_of};
 ghost use Rattle.fs_path.specs.declared.having.Having.TheVariants.{Held as IsHeld};
 
 use crate::asked::Asked;
-use crate::entering::{put_frozen, put_held, put_issued};
+use crate::entering::{issue, put_all_frozen, put_held};
 use crate::giving::{self, drop_issued, recalls_over};
 use crate::having::Having;
 use crate::held::Held;
+use crate::index::FileIndex;
 use crate::issued::Issued;
 use crate::recalled::{GiveBack, Recalled};
 use crate::{reads, walk};
@@ -21,6 +22,7 @@ use fs_map::FileMap;
 use fs_record::Records;
 use std::alloc::Global;
 use std::marker::Model;
+use std::slice;
 
 /// What a server keeps of path leases: none can be dropped, each has to be spent in one of the ways that its state has.
 #[derive(Debug, Drop)]
@@ -28,14 +30,19 @@ pub struct Paths {
     issued: List<Issued>,
     held: List<Having>,
     frozen: List<(FileId, TxnNo)>,
+    /// Those given out, by the files of their paths.
+    over: FileIndex,
 }
 
 impl Model for Paths {
+    ghost use Rattle.fs_path.specs.Index.{IsOver};
     ghost use Rattle.fs_path.specs.Tables.{PathTables};
 
     ghost Value = { PathTables };
 
     ghost view = { λ p. record { issued = p.issued; held = p.held; frozen = p.frozen } };
+
+    ghost invariant = { λ p. IsOver p.over p.issued };
 }
 
 impl Paths {
@@ -47,6 +54,7 @@ impl Paths {
             issued: List::new(alloc),
             held: List::new(alloc),
             frozen: List::new(alloc),
+            over: FileIndex::new(alloc),
         }
     }
 
@@ -85,8 +93,14 @@ impl Paths {
         }) }
         ensures err { OnErr result (self.new ≡ self.old) }
     {
-        let (file, path) = copy_two(alloc, file, path)?;
-        put_issued(self.issued.items_mut(), Issued::new(no, to, file, path))
+        let (own, files) = copy_two(alloc, file, path)?;
+        issue(
+            self.issued.items_mut(),
+            &mut self.over,
+            alloc,
+            Issued::new(no, to, own, files),
+            path,
+        )
     }
 
     /// Takes a lease that another server gave out.
@@ -116,7 +130,7 @@ impl Paths {
     pub fn through(&self, file: &FileId) -> Option<PathNo>
         ensures { result ≡ through file.now self.now.issued }
     {
-        reads::through(self.issued.as_slice(), file)
+        reads::through(self.issued.as_slice(), &self.over, file)
     }
 
     /// The least lease, given out or from another server, whose path goes over a file below the prefix that is `me`'s.
@@ -133,7 +147,7 @@ impl Paths {
     pub fn recall_through(&self, alloc: Global, file: &FileId) -> Result<List<(u8, PathNo)>, Memory>
         ensures { IfOk result (λ list. list ≡ recalls (goes_over file.now) self.now.issued) }
     {
-        recalls_over(alloc, self.issued.as_slice(), file)
+        recalls_over(alloc, self.issued.as_slice(), &self.over, file)
     }
 
     /// What `recall` comes to for the lease of this number; nothing changes.
@@ -156,6 +170,7 @@ impl Paths {
         giving::give_back(
             self.held.items_mut(),
             self.issued.as_slice(),
+            &self.over,
             &Asked::Number(no),
         );
     }
@@ -172,7 +187,12 @@ impl Paths {
         };
         let asked = Asked::Number(no);
         let down = giving::recalls(alloc, self.issued.as_slice(), self.held.as_slice(), &asked)?;
-        giving::give_back(self.held.items_mut(), self.issued.as_slice(), &asked);
+        giving::give_back(
+            self.held.items_mut(),
+            self.issued.as_slice(),
+            &self.over,
+            &asked,
+        );
         Ok(Recalled::first_down(to, down))
     }
 
@@ -182,7 +202,13 @@ impl Paths {
         ensures { IfOk result (λ list. list ≡
             releases is_leaving (without_no no self.now.issued) self.now.held) }
     {
-        giving::releases_but(alloc, self.issued.as_slice(), self.held.as_slice(), no)
+        giving::releases_but(
+            alloc,
+            self.issued.as_slice(),
+            &self.over,
+            self.held.as_slice(),
+            no,
+        )
     }
 
     /// The lease of this number that was given out is back, and the leaving ones go whose file no path that was given out goes over any
@@ -190,10 +216,11 @@ impl Paths {
     pub fn release(&mut self, no: PathNo)
         ensures { self.new ≡ after_released no self.old }
     {
-        drop_issued(self.issued.items_mut(), no);
+        drop_issued(self.issued.items_mut(), &mut self.over, no);
         giving::give_back(
             self.held.items_mut(),
             self.issued.as_slice(),
+            &self.over,
             &Asked::Leaving,
         );
     }
@@ -226,6 +253,7 @@ impl Paths {
         let releases = giving::releases(
             alloc,
             self.issued.as_slice(),
+            &self.over,
             self.held.as_slice(),
             &asked,
         )?;
@@ -239,6 +267,7 @@ impl Paths {
         giving::give_back(
             self.held.items_mut(),
             self.issued.as_slice(),
+            &self.over,
             &Asked::Into(map, me, prefix),
         );
     }
@@ -256,19 +285,27 @@ impl Paths {
         ensures state { OnOk result (self.new ≡ after_give_back map.now me prefix.now self.old) }
         ensures err { OnErr result (self.new ≡ self.old) }
     {
-        let told = self.back_from(alloc, prefix, map, me)?;
+        let back = self.back_from(alloc, prefix, map, me)?;
         self.ask_back(prefix, map, me);
-        Ok(told)
+        Ok(back)
     }
 
-    /// The transaction keeps the file where it is, beside those that keep it already.
+    /// The transaction keeps the file where it is, beside those that it keeps already.
     pub fn freeze(&mut self, alloc: Global, file: &FileId, txn: TxnNo) -> Result<(), Memory>
         ensures ok { OnOk result (self.new ≡
             record self.old { frozen = with_frozen file.now txn self.old.frozen }) }
         ensures err { OnErr result (self.new ≡ self.old) }
     {
-        let file = file.copy(alloc)?;
-        put_frozen(self.frozen.items_mut(), file, txn)
+        self.freeze_all(alloc, slice::from_ref(file), txn)
+    }
+
+    /// The transaction keeps each of these files where it is: all of them, or none where memory is wanting.
+    pub fn freeze_all(&mut self, alloc: Global, files: &[FileId], txn: TxnNo) -> Result<(), Memory>
+        ensures ok { OnOk result (self.new ≡
+            record self.old { frozen = with_all_frozen txn files.now self.old.frozen }) }
+        ensures err { OnErr result (self.new ≡ self.old) }
+    {
+        put_all_frozen(alloc, self.frozen.items_mut(), files, txn)
     }
 
     /// The transaction keeps no file any more; those of others stay.
@@ -289,7 +326,7 @@ impl Paths {
     pub fn issued_to(&self, no: PathNo) -> Option<u8>
         ensures { result ≡ issued_to no self.now.issued }
     {
-        reads::issued_to(self.issued.as_slice(), no)
+        reads::issued_to(self.issued.as_slice(), &self.over, no)
     }
 
     /// Whether the lease is had from another server, leaving or not.
@@ -303,12 +340,14 @@ impl Paths {
 impl Twin for Paths {
     fn copy(&self, alloc: Global) -> Result<Paths, Memory> {
         let frozen = self.frozen.copy(alloc)?;
+        let over = self.over.copy(alloc)?;
         let issued = self.issued.copy(alloc)?;
         match self.held.copy(alloc) {
             Ok(held) => Ok(Paths {
                 issued,
                 held,
                 frozen,
+                over,
             }),
             Err(e) => {
                 issued.discard();
@@ -323,10 +362,12 @@ impl Twin for Paths {
             issued,
             held,
             frozen,
+            over,
         } = self;
         issued.discard();
         held.discard();
         frozen.discard();
+        drop(over);
     }
 }
 

@@ -1,21 +1,47 @@
 //! What is read of the tables.
-ghost use Rattle.std.specs.Prelude.{◌≡◌, option_map};
+ghost use Rattle.std.specs.Prelude.{◌≡◌, true, IfOk, option_map};
 ghost use Rattle.std.specs.List.{find};
 ghost use Rattle.std.specs.Option.{option_copied};
+ghost use Rattle.fs_path.specs.Index.{IsOver, are_rising, first_named, no_of_issued};
 ghost use Rattle.fs_path.specs.Leases.{PathLease, goes_into, goes_over, has_no, lesser_no};
 ghost use Rattle.fs_path.specs.Returns.{held_from};
 ghost use Rattle.fs_path.specs.Tables.{frozen_for, holds, issued_to, lease_of, through};
 ghost use Rattle.fs_path.specs.Walk.{used_for};
 
 use crate::having::Having;
+use crate::index::FileIndex;
 use crate::issued::Issued;
+use crate::numbered::place_of_issued;
 use crate::used::Used;
-use fs_ident::{FileId, PathNo, TxnNo};
+use fs_ident::{FileId, List, Memory, PathNo, TxnNo};
 use fs_map::FileMap;
+use std::alloc::Global;
 
 /// The server to which the lease of the number is given out.
+pub(crate) fn issued_to(issued: &[Issued], over: &FileIndex, no: PathNo) -> Option<u8>
+    requires { IsOver over.now issued.now }
+    ensures { result ≡ issued_to no issued.now }
+{
+    if over.is_whole() {
+        found_issued_to(issued, no)
+    } else {
+        walk_issued_to(issued, no)
+    }
+}
+
+fn found_issued_to(issued: &[Issued], no: PathNo) -> Option<u8>
+    requires { are_rising no_of_issued issued.now ≡ true }
+    ensures { result ≡ issued_to no issued.now }
+{
+    match place_of_issued(issued, no) {
+        Some(at) => Some(issued[at].to()),
+        None => None,
+    }
+}
+
+/// The same, lease after lease.
 #[tactic(auto, using(crate::proofs::Steps::find_step))]
-pub(crate) fn issued_to(issued: &[Issued], no: PathNo) -> Option<u8>
+fn walk_issued_to(issued: &[Issued], no: PathNo) -> Option<u8>
     ensures { result ≡ issued_to no issued.now }
 {
     for l in issued {
@@ -46,15 +72,49 @@ pub(crate) fn held_from(held: &[Having], no: PathNo) -> Option<u8>
 {
     for h in held {
         if h.no() == no {
-            return Some(h.told().0);
+            return Some(h.named_to_peer().0);
         }
     }
     None
 }
 
 /// The first one given out whose path goes over the file.
+pub(crate) fn through(issued: &[Issued], over: &FileIndex, file: &FileId) -> Option<PathNo>
+    requires { IsOver over.now issued.now }
+    ensures { result ≡ through file.now issued.now }
+{
+    if over.is_whole() {
+        first_no(over.at(file))
+    } else {
+        walk_through(issued, file)
+    }
+}
+
+/// The first number of some names.
+fn first_no(names: &[(u8, PathNo)]) -> Option<PathNo>
+    ensures { result ≡ first_named names.now }
+{
+    match names.first() {
+        Some(name) => Some(name.1),
+        None => None,
+    }
+}
+
+/// A copy of some names.
+pub(crate) fn copy_names(
+    alloc: Global,
+    names: &[(u8, PathNo)],
+) -> Result<List<(u8, PathNo)>, Memory>
+    ensures { IfOk result (λ list. list ≡ names.now) }
+{
+    let mut list = List::new(alloc);
+    list.items_mut().extend_from_slice(names)?;
+    Ok(list)
+}
+
+/// The first whose path goes over the file, path after path.
 #[tactic(auto, using(crate::proofs::Steps::find_step))]
-pub(crate) fn through(issued: &[Issued], file: &FileId) -> Option<PathNo>
+fn walk_through(issued: &[Issued], file: &FileId) -> Option<PathNo>
     ensures { result ≡ through file.now issued.now }
 {
     for l in issued {

@@ -3,6 +3,7 @@ pub mod Desks
 pub mod DecidedStill
 pub mod Tables
 pub mod OwnVotes
+pub mod Recalled
 pub mod YesLocks
 pub mod YesParts
 pub mod RoundsLocks

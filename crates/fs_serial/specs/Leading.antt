@@ -28,7 +28,7 @@ use Rattle.fs_server.specs.declared.event.ServerEvent.{ServerEvent}
 use Rattle.fs_server.specs.declared.state.Server.{Server}
 use Rattle.fs_server.specs.Server.{Stepped}
 use Rattle.fs_txn.specs.Decided.{IsDecided}
-use Rattle.fs_txn.specs.Deciding.{effects_on, reply_of}
+use Rattle.fs_txn.specs.Deciding.{effects_on, needs_path, reply_of}
 use Rattle.fs_txn.specs.Guards.{is_enough}
 use Rattle.fs_txn.specs.Leading.{ending_of, leading_of}
 use Rattle.fs_txn.specs.Locks.{LeavesLocks, LocksHold}
@@ -39,7 +39,6 @@ use Rattle.fs_txn.specs.Stages.Word.{Decide}
 use Rattle.fs_txn.specs.declared.leader.Leader.{Leader}
 use Rattle.fs_txn.specs.declared.leading.Ending.{Ending}
 use Rattle.fs_txn.specs.declared.leading.Leading.{Leading}
-use Rattle.fs_txn.specs.declared.mode.Mode2.TheVariants.{Plain}
 use Rattle.fs_txn.specs.declared.ready.Ready.{Ready}
 use Rattle.fs_serial.specs.Cluster.{Cluster, Lines, in_flight_from, without_arrived}
 use Rattle.fs_serial.specs.Words.{desks_of, kept_at, key_of, rows_at, said_at, stage_of_key, telling_of}
@@ -56,19 +55,21 @@ pub record IsLeaderOf (l : Leader) (d : Led) : Type 0 where
   pub number : l.n ≡ d.entry.n
   pub op : l.op ≡ d.entry.op
   pub file : l.file ≡ d.file
-  pub parts : l.parts ≡ parts_in (lead_of d)
-  pub mode : l.mode ≡ Plain
+  pub parts : l.parts ≡ parts_in l.mode (lead_of d)
+  -- its decision stands on no path
+  pub mode : needs_path l.mode l.op ≡ false
 
 -- what each part is told where the operation is carried out: its effects on the part's file
 abbrev pub effects_told : Leading → List (List Effect)
 effects_told l = map (λ (p : Part). effects_on (led_effects l.leader.op l.leader.file (reply_of l.leader.op)) p.file) l.leader.parts
 
--- the file stays in its directory
+-- the file comes into no other directory
 abbrev pub StaysIn : Op → Type 0
 StaysIn (op.Rename sdir sname ddir dname) = same sdir ddir ≡ true
+StaysIn (op.Delete dir name) = Unit {0}
 StaysIn o = ⊥
 
--- no directory goes or comes into another one, or the home has said that it will not be
+-- no directory comes into another one, or the home has said that it will not be
 abbrev pub IsPlain : Led → Leader → Type 0
 IsPlain d l = (d.kind ≡ File) ⊎ (StaysIn l.op ⊎ (slice_get l.votes 0 ≡ Some (Some Yes) → ⊥))
 

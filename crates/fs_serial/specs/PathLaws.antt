@@ -1,19 +1,19 @@
 -- What the laws of paths say.
-use Rattle.std.specs.Prelude.{◌≡◌, ◌≢◌, ◌<◌, ◌≤◌, ◌+◌, ℕ, Bool, true, false, List, [], reverse, length, Option, Some, None, slice_get}
+use Rattle.std.specs.Prelude.{◌≡◌, ◌≢◌, ℕ, true, List, reverse, Some, None, slice_get}
 use Rattle.fs_ident.specs.In.{In}
-use Rattle.fs_ident.specs.declared.actor.PathNo.{PathNo}
 use Rattle.fs_ident.specs.declared.kind.Kind.TheVariants.{Dir}
 use Rattle.fs_field.specs.declared.path.PathAnswer.TheVariants.{Path}
 use Rattle.fs_field.specs.declared.used.Use.{Use}
 use Rattle.fs_model.specs.Ancestors.{is_on_chain}
 use Rattle.fs_msg.specs.declared.peer_msg.PeerMsg.{PeerMsg}
-use Rattle.fs_msg.specs.declared.peer_msg.PeerMsg.TheVariants.{PathAsk, PathGrant, PathNo as Denied, PathRecall, PathRelease}
+use Rattle.fs_msg.specs.declared.peer_msg.PeerMsg.TheVariants.{Parcel as OfParcel, PathAsk, PathGrant, PathNo as Denied, PathRecall, PathRelease}
 use Rattle.fs_msg.specs.declared.server_note.ServerNote.{ServerNote}
 use Rattle.fs_msg.specs.declared.server_note.ServerNote.TheVariants as note
 use Rattle.fs_record.specs.Records.{nodes_of}
-use Rattle.fs_server.specs.Moves.{peer_step}
+use Rattle.fs_record.specs.declared.parcel.Parcel.{Parcel}
+use Rattle.fs_server.specs.Moves.{installed, move_step, peer_step}
 use Rattle.fs_server.specs.PathSteps.{asks_back_in, dir_here, path_here}
-use Rattle.fs_server.specs.Server.{Stepped}
+use Rattle.fs_server.specs.Server.{Stepped, only_noted}
 use Rattle.fs_server.specs.declared.event.ServerEvent.{ServerEvent}
 use Rattle.fs_server.specs.declared.event.ServerEvent.TheVariants.{FromPeer, Move}
 use Rattle.fs_server.specs.declared.state.Server.{Server}
@@ -25,6 +25,7 @@ use Rattle.fs_serial.specs.Cluster.{Cluster, IsThere, after_step}
 use Rattle.fs_serial.specs.Fresh.{made}
 use Rattle.fs_serial.specs.KeptFiles.{FilesKept}
 use Rattle.fs_serial.specs.Paths.{BeginsWith, IsChainUp, IsOnPath, LeavesPaths, PathsHold, PathsStand, has_record, is_kept}
+use Rattle.fs_serial.specs.Places.{PlacesHold}
 use Rattle.fs_serial.specs.Runs.{held_by}
 use Rattle.fs_serial.specs.Seen.{ClusterHolds}
 
@@ -32,7 +33,7 @@ use Rattle.fs_serial.specs.Seen.{ClusterHolds}
 
 -- all that holds between events, and the files that servers keep, are what paths rest on
 abbrev pub WhatPathsRestOn : Type 0
-WhatPathsRestOn = (skew greatest : ℕ) (c : Cluster) (h : ClusterHolds skew greatest c) → FilesKept c h.led → PathsStand c
+WhatPathsRestOn = (skew greatest : ℕ) (c : Cluster) → ClusterHolds skew greatest c → FilesKept c → PathsStand c
 
 -- ## Paths that are taken
 
@@ -70,7 +71,7 @@ pub record IsKeptThere (c : Cluster) (file dir : List ℕ) : Type 0 where
 -- where all parts of a transaction that freezes said Yes, the server of the directory that loses a name keeps the file
 abbrev pub KeptAtSource : Type 0
 KeptAtSource =
-    (skew greatest : ℕ) (c : Cluster) (h : ClusterHolds skew greatest c) → FilesKept c h.led → (s : Server) → In s c.servers
+    (skew greatest : ℕ) (c : Cluster) → ClusterHolds skew greatest c → FilesKept c → (s : Server) → In s c.servers
     → (l : Leading) → In l s.leading → first_end l.leader.votes ≡ None → (uses : List Use)
     → l.leader.parts ≡ parts_of l.leader.op l.leader.file uses Freeze → IsKeptThere c l.leader.file (source_of l.leader.op)
 
@@ -110,3 +111,18 @@ abbrev pub OtherStepsKeep : Type 0
 OtherStepsKeep =
     (c : Cluster) (k : ℕ) (e : ServerEvent) (s : Server) (x : Stepped) → PathsHold c → slice_get c.servers k ≡ Some s
     → LeavesPaths k e s x c (after_step k e x c) → PathsHold (after_step k e x c)
+
+-- ## Files that move between servers
+
+-- a server that is to hand over what it has below a prefix, whether it does or not: what goes is on none of its paths
+abbrev pub MoveKeepsPaths : Type 0
+MoveKeepsPaths =
+    (c : Cluster) (k to : ℕ) (s : Server) (prefix : List ℕ) → PlacesHold c → PathsHold c → slice_get c.servers k ≡ Some s
+    → PathsHold (after_step k (Move prefix to) (move_step prefix to s) c)
+
+-- a parcel that a server takes: what its paths rest on goes on at another server, which has the record of the next file
+abbrev pub InstallKeepsPaths : Type 0
+InstallKeepsPaths =
+    (c : Cluster) (k from : ℕ) (s : Server) (p : Parcel) → PlacesHold c → PathsHold c → slice_get c.servers k ≡ Some s
+    → IsThere k (FromPeer from (OfParcel p)) c
+    → PathsHold (after_step k (FromPeer from (OfParcel p)) (only_noted (note.Installs p.prefix) (installed p s)) c)

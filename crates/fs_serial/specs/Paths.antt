@@ -1,18 +1,18 @@
 -- The paths that servers give out, have from others and take, over what all servers hold together. Where a list of files is said to go
 -- up, it begins with a file, and ends with the root.
-use Rattle.std.specs.Prelude.{◌≡◌, ◌≢◌, ◌==◌, ◌<◌, ◌≤◌, ◌+◌, ◌⊎◌, ℕ, Bool, true, false, List, [], ◌∷◌, length, reverse, Option, Some, None, is_some, slice_get, if◌then◌else◌}
+use Rattle.std.specs.Prelude.{◌≡◌, ◌≢◌, ◌≤◌, ◌+◌, ◌⊎◌, ℕ, Bool, true, false, List, [], ◌∷◌, length, reverse, Option, Some, None, is_some, slice_get, if◌then◌else◌}
 use Rattle.std.specs.FinMap.{get}
 use Rattle.std.specs.List.{filter, find, flat_map}
 use Rattle.fs_ident.specs.In.{In}
 use Rattle.fs_ident.specs.declared.actor.PathNo.{PathNo}
 use Rattle.fs_ident.specs.declared.kind.Kind.TheVariants.{Dir}
 use Rattle.fs_msg.specs.declared.peer_msg.PeerMsg.{PeerMsg}
-use Rattle.fs_msg.specs.declared.peer_msg.PeerMsg.TheVariants.{PathAsk, PathGrant, PathNo as Denied, PathRecall, PathRelease}
+use Rattle.fs_msg.specs.declared.peer_msg.PeerMsg.TheVariants.{PathAsk, PathGrant, PathNo as Denied, PathRelease}
 use Rattle.fs_msg.specs.declared.item.Item.{Item}
 use Rattle.fs_path.specs.Laws.{AreGiven}
 use Rattle.fs_path.specs.Leases.{PathLease, has_no, same_path_no}
 use Rattle.fs_path.specs.Returns.{is_of}
-use Rattle.fs_path.specs.Tables.{frozen_for, lease_of}
+use Rattle.fs_path.specs.Tables.{frozen_for, lease_of, through}
 use Rattle.fs_path.specs.declared.having.Having.{Having}
 use Rattle.fs_record.specs.Records.{RecordMap}
 use Rattle.fs_server.specs.PathSteps.{dir_here, has_child}
@@ -115,15 +115,6 @@ SaysPath c from to (PathGrant number file path) = IsOut c from (record { no = nu
 SaysPath c from to (PathRelease number) = (l : PathLease) × ((l.no ≡ number) × ((l.peer ≡ from) × IsOut c to l))
 SaysPath c from to m = Unit {0}
 
--- it is no message on path leases
-abbrev pub IsNoPath : PeerMsg → Type 0
-IsNoPath (PathAsk file dir) = ⊥
-IsNoPath (Denied file w) = ⊥
-IsNoPath (PathGrant number file path) = ⊥
-IsNoPath (PathRecall number) = ⊥
-IsNoPath (PathRelease number) = ⊥
-IsNoPath m = Unit {0}
-
 -- ## What paths rest on
 
 -- directories are in directories; each record is in one place; and a directory's record, or what a record says of one below it, tells
@@ -163,15 +154,17 @@ pub record IsOnPath (servers : List Server) (file : List ℕ) : Type 0 where
   pub issued : In lease server.paths.issued
   pub among : In file lease.path
 
--- the server's leases stay as they are, no message on paths is taken or sent, what was made stays made, and for files that paths go over
--- all stays as it is: where they stand, and which of them this server has, as far as its own paths go
+-- the server's leases stay as they are; it keeps no more files but such as none of its paths goes over; no message that brings a path is
+-- taken or sent, and what is sent of paths is true then; what was made stays made; and for files that paths go over all stays as it is:
+-- where they stand, and which of them this server has, as far as its own paths go
 pub record LeavesPaths (k : ℕ) (e : ServerEvent) (s : Server) (x : Stepped) (c later : Cluster) : Type 0 where
   pub me : x.server.me ≡ s.me
   pub issued : x.server.paths.issued ≡ s.paths.issued
   pub held : x.server.paths.held ≡ s.paths.held
-  pub frozen : x.server.paths.frozen ≡ s.paths.frozen
+  pub kept : (f : List ℕ) → is_kept x.server f ≡ true → (is_kept s f ≡ true) ⊎ (through f s.paths.issued ≡ None)
   pub given : x.server.paths_given ≡ s.paths_given
-  pub sent : (f : InFlight) → In f (in_flight_from k x.out.send) → IsNoPath f.message
+  pub sent : (f : InFlight) → In f (in_flight_from k x.out.send)
+      → SaysPath later f.from f.to f.message × ((number : PathNo) → has_path number f.message ≡ false)
   pub taken : (number : PathNo) → filter (λ (f : InFlight). has_path number f.message) (without_arrived k e c.in_flight)
       ≡ filter (λ (f : InFlight). has_path number f.message) c.in_flight
   pub journal : (f : List ℕ) → made c.journal f ≡ Some Dir → made later.journal f ≡ Some Dir

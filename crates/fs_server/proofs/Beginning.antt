@@ -12,6 +12,7 @@ use Rattle.fs_txn.specs.Leading.{IsWholeLeader}
 use Rattle.fs_txn.specs.Numbers.{next_txn}
 use Rattle.fs_txn.specs.Votes.{is_full}
 use Rattle.fs_txn.specs.declared.leading.Leading.{Leading}
+use Rattle.fs_txn.specs.declared.mode.Mode2.{Mode2}
 use Rattle.fs_server.specs.Begins.{Round, asked_part, begins, begun_with, first_round, leader_with}
 use Rattle.fs_server.specs.Begins.{own_part, part_round, parts_in, round_of, rounds, txn_of}
 use Rattle.fs_server.specs.Concludes.{concludes, goes_on, waits}
@@ -49,20 +50,20 @@ all_places txn number by (p ∷ ps) r =
 
 -- ## The transaction goes on
 
-module _ (by : Session) (m : Lead) (s : Server) (txn : TxnNo) (g : Gathered) (l : Leading) (next : next_txn s.me s.txns ≡ Some txn)
-    (gathered : gathered_by g txn s ≡ rounds txn 0 by (parts_in m) (first_round s)) (its : l.leader ≡ leader_with txn by m g.votes)
-    (at : l.at ≡ g.at) where
-  pub begun_so : goes_on (note.Prepares txn) l g.send (keeping true l.leader.txn g.uses s) ≡ begins by m s
+module _ (mode : Mode2) (by : Session) (m : Lead) (s : Server) (txn : TxnNo) (g : Gathered) (l : Leading)
+    (next : next_txn s.me s.txns ≡ Some txn) (gathered : gathered_by g txn s ≡ rounds txn 0 by (parts_in mode m) (first_round s))
+    (its : l.leader ≡ leader_with mode txn by m g.votes) (at : l.at ≡ g.at) where
+  pub begun_so : goes_on (note.Prepares txn) l g.send (keeping true l.leader.txn g.uses g.files s) ≡ begins mode by m s
   begun_so =
-      (λ i. goes_on (note.Prepares txn) (record { leader = its i; at = at i }) g.send (keeping true (its i).txn g.uses s))
-      ∙ ap (begun_with by m txn) gathered
-      ∙ ap (λ t. begun_with by m t (rounds t 0 by (parts_in m) (first_round s))) (is_next s txn next)
+      (λ i. goes_on (note.Prepares txn) (record { leader = its i; at = at i }) g.send (keeping true (its i).txn g.uses g.files s))
+      ∙ ap (begun_with mode by m txn) gathered
+      ∙ ap (λ t. begun_with mode by m t (rounds t 0 by (parts_in mode m) (first_round s))) (is_next s txn next)
 
-  whole_so : IsWholeLeader (record { leader = leader_with txn by m g.votes; at = g.at }) m.uses
+  whole_so : IsWholeLeader (record { leader = leader_with mode txn by m g.votes; at = g.at }) m.uses
   whole_so =
-      let many : HasMore (length (parts_in m)) (first_round s) (gathered_by g txn s) = subst
-      (HasMore (length (parts_in m)) (first_round s)) (sym gathered) (all_places txn 0 by (parts_in m) (first_round s)) in
-      record { parts = refl; asked = many.at ∙ none (length (parts_in m)); votes = many.votes ∙ none (length (parts_in m)) }
+      let many : HasMore (length (parts_in mode m)) (first_round s) (gathered_by g txn s) = subst
+      (HasMore (length (parts_in mode m)) (first_round s)) (sym gathered) (all_places txn 0 by (parts_in mode m) (first_round s)) in
+      record { parts = refl; asked = many.at ∙ none (length (parts_in mode m)); votes = many.votes ∙ none (length (parts_in mode m)) }
     where
       none : (n : ℕ) → 0 + n ≡ n
       none n = omega arith
@@ -86,18 +87,18 @@ counter_kept txn number by (p ∷ ps) r = counter_kept txn (number + 1) by ps (p
     at true = refl
     at false = refl
 
-counter_same : (by : Session) (m : Lead) (txn : TxnNo) (r : Round) → counter_over (begun_with by m txn r).server ≡ counter_over r.server
-counter_same by m txn r = at (is_full r.votes)
+counter_same : (mode : Mode2) (by : Session) (m : Lead) (txn : TxnNo) (r : Round) → counter_over (begun_with mode by m txn r).server ≡ counter_over r.server
+counter_same mode by m txn r = at (is_full r.votes)
   where
-    at : (b : Bool) → counter_over (cond b (concludes (record { leader = leader_with txn by m r.votes; at = r.at }) r.send r.server)
-        (waits (note.Prepares txn) (record { leader = leader_with txn by m r.votes; at = r.at }) r.send r.server)).server
+    at : (b : Bool) → counter_over (cond b (concludes (record { leader = leader_with mode txn by m r.votes; at = r.at }) r.send r.server)
+        (waits (note.Prepares txn) (record { leader = leader_with mode txn by m r.votes; at = r.at }) r.send r.server)).server
         ≡ counter_over r.server
     at true = refl
     at false = refl
 
-pub begun_spent : (by : Session) (m : Lead) (s : Server) → IsReady s → next_txn s.me s.txns ≡ None
-    → counter_over (begins by m s).server ≡ Some Transactions
-begun_spent by m s r h =
-    counter_same by m (txn_of s) (round_of by m s)
-    ∙ counter_kept (txn_of s) 0 by (parts_in m) (first_round s)
+pub begun_spent : (mode : Mode2) (by : Session) (m : Lead) (s : Server) → IsReady s → next_txn s.me s.txns ≡ None
+    → counter_over (begins mode by m s).server ≡ Some Transactions
+begun_spent mode by m s r h =
+    counter_same mode by m (txn_of s) (round_of mode by m s)
+    ∙ counter_kept (txn_of s) 0 by (parts_in mode m) (first_round s)
     ∙ txns_over s.given s.reaps s.txns _ r.server.given r.server.reaps (spent_at s h)

@@ -45,7 +45,7 @@ use Rattle.fs_server.specs.declared.decide.Decided.{Decided}
 use Rattle.fs_server.specs.declared.out.ServerOut.{ServerOut}
 use Rattle.fs_server.specs.declared.state.Server.{Server}
 use Rattle.fs_server.proofs.Effects.{all_filtered}
-use Rattle.fs_server.proofs.Kept.{leased_rows}
+use Rattle.fs_server.proofs.Kept.{leased_rows, with_tables}
 use Rattle.fs_server.proofs.Owned.{own_order}
 
 -- ## What it keeps
@@ -62,9 +62,9 @@ counted : (begins : Bool) (txns : ℕ) → txns < 2 ^ 64 → (begins ≡ true �
 counted true txns h few = few refl
 counted false txns h few = h
 
-pub keeping_ready : (begins : Bool) (txn : TxnNo) (uses : List Use) (s : Server) → IsReady s → (begins ≡ true → s.txns + 1 < 2 ^ 64)
-    → IsReady (keeping begins txn uses s)
-keeping_ready begins txn uses s r few = record {
+pub keeping_ready : (begins : Bool) (txn : TxnNo) (uses : List Use) (files : List (List ℕ)) (s : Server) → IsReady s
+    → (begins ≡ true → s.txns + 1 < 2 ^ 64) → IsReady (keeping begins txn uses files s)
+keeping_ready begins txn uses files s r few = record {
   server = record {
     few = r.server.few;
     skew = r.server.skew;
@@ -121,48 +121,51 @@ waits_ready l s r w = with_led s s.records s.rows (with_leading l s.leading) s.e
 ends_ready : (effects removals : List Effect) (x : Ending) (keeps : Bool) (txn : TxnNo) (s : Server) → IsReady s → IsReady (changed_then (rest.Ends effects removals x keeps) txn s)
 ends_ready effects removals x keeps txn s r =
     let t : Server = changed_then (rest.Ends effects removals x keeps) txn s in
-    with_led s t.records t.rows t.leading t.ending r (unlocked_given s.me s.given keeps txn s.rows r.server.numbers) (unlocked_rows keeps txn s.rows r.table)
-    (fewer_whole txn s.leading r.server.whole)
+    with_tables (record s { records = t.records; rows = t.rows; leading = t.leading; ending = t.ending }) t.paths
+    (with_led s t.records t.rows t.leading t.ending r (unlocked_given s.me s.given keeps txn s.rows r.server.numbers)
+    (unlocked_rows keeps txn s.rows r.table) (fewer_whole txn s.leading r.server.whole))
 
 -- ## Decided
 
 abbrev stepped : Server → ServerOut → Stepped
 stepped t o = record { server = t; out = o }
 
-pub concludes_so : (begins : Bool) (l : Leading) (uses : List Use) (send : List (Peer × Msg)) (s : Server) (d : Decided) (w : Decision) (others : List (ℕ × ℕ))
-    → CanGoOn begins l s → w ≡ decision l.leader None → others ≡ elsewhere s.me l → d.change ≡ change.Lead begins l.leader.txn uses (ends_by s.me l w others)
-    → d.out ≡ told_by w others l.leader send → stepped_by d s ≡ concludes l send (keeping begins l.leader.txn uses s)
-concludes_so begins l uses send s d w others can is_decision is_elsewhere ch out =
-    let k : Server = keeping begins l.leader.txn uses s in
+pub concludes_so : (begins : Bool) (l : Leading) (uses : List Use) (files : List (List ℕ)) (send : List (Peer × Msg)) (s : Server) (d : Decided)
+    (w : Decision) (others : List (ℕ × ℕ)) → CanGoOn begins l s → w ≡ decision l.leader None → others ≡ elsewhere s.me l
+    → d.change ≡ change.Lead begins l.leader.txn uses files (ends_by s.me l w others) → d.out ≡ told_by w others l.leader send
+    → stepped_by d s ≡ concludes l send (keeping begins l.leader.txn uses files s)
+concludes_so begins l uses files send s d w others can is_decision is_elsewhere ch out =
+    let k : Server = keeping begins l.leader.txn uses files s in
     let e : Decision = decision l.leader None in
     let all : ServerOut → Change → Stepped = λ o c. stepped (changed c s) o in
     ap₂ all out ch
-    ∙ ap₂ (λ (v : Decision) (ys : List (ℕ × ℕ)). all (told_by v ys l.leader send) (change.Lead begins l.leader.txn uses (ends_by s.me l v ys))) is_decision is_elsewhere
+    ∙ ap₂ (λ (v : Decision) (ys : List (ℕ × ℕ)). all (told_by v ys l.leader send) (change.Lead begins l.leader.txn uses files (ends_by s.me l v ys))) is_decision is_elsewhere
     ∙ ap (λ (records : RecordMap). stepped (record ((concludes l send k).server) { records = records }) ((concludes l send k).out))
     (own_order s.records s.me l can.uses None can.whole)
 
-pub concludes_can : (begins : Bool) (l : Leading) (uses : List Use) (s : Server) (d : Decided) (w : Decision) (others : List (ℕ × ℕ)) → IsReady s → CanGoOn begins l s
-    → d.change ≡ change.Lead begins l.leader.txn uses (ends_by s.me l w others) → CanDecide d s
-concludes_can begins l uses s d w others r can ch =
+pub concludes_can : (begins : Bool) (l : Leading) (uses : List Use) (files : List (List ℕ)) (s : Server) (d : Decided) (w : Decision)
+    (others : List (ℕ × ℕ)) → IsReady s → CanGoOn begins l s → d.change ≡ change.Lead begins l.leader.txn uses files (ends_by s.me l w others)
+    → CanDecide d s
+concludes_can begins l uses files s d w others r can ch =
     let es : List Effect = own_effects s.me l w in
     record {
       change = subst (λ c. CanChange c s) (sym ch) (all_filtered is_undoable es, all_filtered takes_away es);
       ready = subst (λ c. IsReady (changed c s)) (sym ch)
           (ends_ready (filter is_undoable es) (filter takes_away es) (record { txn = l.leader.txn; session = l.leader.session; end = end_of_decision w; awaits = others }) (keeps_for w others)
-          l.leader.txn (keeping begins l.leader.txn uses s) (keeping_ready begins l.leader.txn uses s r can.few));
+          l.leader.txn (keeping begins l.leader.txn uses files s) (keeping_ready begins l.leader.txn uses files s r can.few));
     }
 
 -- ## Not decided yet
 
-pub waits_so : (begins : Bool) (n : ServerNote) (l : Leading) (uses : List Use) (send : List (Peer × Msg)) (s : Server) (d : Decided) → d ≡ waits_by begins n l uses send
-    → stepped_by d s ≡ waits n l send (keeping begins l.leader.txn uses s)
-waits_so begins n l uses send s d h = ap (λ (x : Decided). stepped_by x s) h
+pub waits_so : (begins : Bool) (n : ServerNote) (l : Leading) (uses : List Use) (files : List (List ℕ)) (send : List (Peer × Msg)) (s : Server) (d : Decided)
+    → d ≡ waits_by begins n l uses files send → stepped_by d s ≡ waits n l send (keeping begins l.leader.txn uses files s)
+waits_so begins n l uses files send s d h = ap (λ (x : Decided). stepped_by x s) h
 
-pub waits_can : (begins : Bool) (n : ServerNote) (l : Leading) (uses : List Use) (send : List (Peer × Msg)) (s : Server) (d : Decided) → IsReady s → IsWhole l
-    → (begins ≡ true → s.txns + 1 < 2 ^ 64) → d ≡ waits_by begins n l uses send → CanDecide d s
-waits_can begins n l uses send s d r w few h = subst (λ (x : Decided). CanDecide x s) (sym h) (record {
+pub waits_can : (begins : Bool) (n : ServerNote) (l : Leading) (uses : List Use) (files : List (List ℕ)) (send : List (Peer × Msg)) (s : Server) (d : Decided)
+    → IsReady s → IsWhole l → (begins ≡ true → s.txns + 1 < 2 ^ 64) → d ≡ waits_by begins n l uses files send → CanDecide d s
+waits_can begins n l uses files send s d r w few h = subst (λ (x : Decided). CanDecide x s) (sym h) (record {
   change = tt;
-  ready = waits_ready l (keeping begins l.leader.txn uses s) (keeping_ready begins l.leader.txn uses s r few) w;
+  ready = waits_ready l (keeping begins l.leader.txn uses files s) (keeping_ready begins l.leader.txn uses files s r few) w;
 })
 
 -- ## It goes on

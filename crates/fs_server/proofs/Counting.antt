@@ -16,6 +16,7 @@ use Rattle.fs_field.proofs.Leases.{unlocked_same}
 use Rattle.fs_msg.specs.declared.msg.Msg.{Msg}
 use Rattle.fs_msg.specs.declared.server_note.ServerNote.{ServerNote}
 use Rattle.fs_msg.specs.declared.server_note.ServerNote.TheVariants as note
+use Rattle.fs_path.specs.Tables.{PathTables, with_all_frozen}
 use Rattle.fs_rows.proofs.Numbers.{given_map}
 use Rattle.fs_msg.specs.declared.done.Done.{Done}
 use Rattle.fs_txn.specs.Leading.{awaits_done, ending_of, leading_of, with_ending, without_done}
@@ -28,8 +29,8 @@ use Rattle.fs_txn.proofs.Locking.{none_locked}
 use Rattle.fs_server.specs.Concludes.{goes_on, waits}
 use Rattle.fs_server.specs.Counts.{after_own_vote, ask_for, asked_at, comes_home, counts, counts_own, done_of, done_with, seeks, sent_on, with_vote}
 use Rattle.fs_server.specs.Decided.{CanDecide, stepped_by}
-use Rattle.fs_server.specs.Follows.{to_server}
-use Rattle.fs_server.specs.Gathered.{CanGoOn, IsWhole, done_told, keeping, uses_voted, waits_by}
+use Rattle.fs_server.specs.Follows.{paths_kept, recalls_for, to_server}
+use Rattle.fs_server.specs.Gathered.{CanGoOn, IsWhole, done_told, files_voted, keeping, uses_voted, waits_by}
 use Rattle.fs_server.specs.Grants.{IsReady}
 use Rattle.fs_server.specs.Plan.{CanChange, changed, done_change}
 use Rattle.fs_server.specs.Server.{Stepped, strange}
@@ -43,12 +44,19 @@ use Rattle.fs_server.proofs.Kept.{leased_rows}
 -- ## No rows, or those of a part
 
 -- where no leases are used, nothing is kept
-pub keeps_none : (txn : TxnNo) (s : Server) → keeping false txn [] s ≡ s
+pub keeps_none : (txn : TxnNo) (s : Server) → keeping false txn [] [] s ≡ s
 keeps_none txn s = ap (λ (rows : List Row). record s { rows = rows }) (none_locked txn s.rows)
 
--- those of a part that said Yes
-pub keeps_voted : (vote : Vote) (txn : TxnNo) (p : Part) (s : Server) → keeping false txn (uses_voted vote p.uses) s ≡ after_own_vote txn p vote s
-keeps_voted Yes txn p s = refl
+-- the file of a part that said Yes
+kept_so : (txn : TxnNo) (file : Option (List ℕ)) (t : PathTables)
+    → record t { frozen = with_all_frozen txn (files_voted Yes file) t.frozen } ≡ paths_kept txn file t
+kept_so txn None t = refl
+kept_so txn (Some file) t = refl
+
+-- its rows, and the file
+pub keeps_voted : (vote : Vote) (txn : TxnNo) (p : Part) (s : Server)
+    → keeping false txn (uses_voted vote p.uses) (files_voted vote p.freeze) s ≡ after_own_vote txn p vote s
+keeps_voted Yes txn p s = ap (λ (t : PathTables). record s { rows = rows_locked txn p.uses s.rows; paths = t }) (kept_so txn p.freeze s.paths)
 keeps_voted (Ended lease until now) txn p s = keeps_none txn s
 keeps_voted (Moved prefix to) txn p s = keeps_none txn s
 keeps_voted (PathsOut lease) txn p s = keeps_none txn s
@@ -93,39 +101,43 @@ own_on number vote l x s w h = goes_more x s (subst IsWhole (sym h) (asked_whole
 
 -- ## A vote
 
--- it goes on, and keeps these rows
-pub goes_so : (n : ServerNote) (l x : Leading) (uses : List Use) (send : List (Peer × Msg)) (s t : Server) → x ≡ l → send ≡ [] → keeping false l.leader.txn uses s ≡ t
-    → goes_on n x send (keeping false x.leader.txn uses s) ≡ goes_on n l [] t
-goes_so n l x uses send s t h e k =
-    ap (λ (z : Leading). goes_on n z send (keeping false z.leader.txn uses s)) h ∙ ap₂ (λ (ms : List (Peer × Msg)) (u : Server). goes_on n l ms u) e k
+-- it goes on, and keeps these rows and files
+pub goes_so : (n : ServerNote) (l x : Leading) (uses : List Use) (files : List (List ℕ)) (send told : List (Peer × Msg)) (s t : Server) → x ≡ l
+    → send ≡ told → keeping false l.leader.txn uses files s ≡ t
+    → goes_on n x send (keeping false x.leader.txn uses files s) ≡ goes_on n l told t
+goes_so n l x uses files send told s t h e k =
+    ap (λ (z : Leading). goes_on n z send (keeping false z.leader.txn uses files s)) h ∙ ap₂ (λ (ms : List (Peer × Msg)) (u : Server). goes_on n l ms u) e k
 
-pub counts_so : (number : ℕ) (vote : Vote) (l x : Leading) (uses : List Use) (send : List (Peer × Msg)) (s : Server) → x ≡ with_vote number vote l → uses ≡ []
-    → send ≡ [] → goes_on (note.Waits l.leader.txn) x send (keeping false x.leader.txn uses s) ≡ counts number vote l s
-counts_so number vote l x uses send s h u e = goes_so (note.Waits l.leader.txn) (with_vote number vote l) x uses send s s h e
-    (ap (λ (us : List Use). keeping false l.leader.txn us s) u ∙ keeps_none l.leader.txn s)
+pub counts_so : (number : ℕ) (vote : Vote) (l x : Leading) (uses : List Use) (files : List (List ℕ)) (send : List (Peer × Msg)) (s : Server)
+    → x ≡ with_vote number vote l → uses ≡ [] → files ≡ [] → send ≡ []
+    → goes_on (note.Waits l.leader.txn) x send (keeping false x.leader.txn uses files s) ≡ counts number vote l s
+counts_so number vote l x uses files send s h u f e = goes_so (note.Waits l.leader.txn) (with_vote number vote l) x uses files send [] s s h e
+    (ap₂ (λ (us : List Use) (fs : List (List ℕ)). keeping false l.leader.txn us fs s) u f ∙ keeps_none l.leader.txn s)
 
-pub own_so : (number : ℕ) (p : Part) (vote : Vote) (l x : Leading) (uses : List Use) (send : List (Peer × Msg)) (s : Server)
-    → x ≡ asked_at number s.me (with_vote number vote l) → uses ≡ uses_voted vote p.uses → send ≡ []
-    → goes_on (note.Waits l.leader.txn) x send (keeping false x.leader.txn uses s) ≡ counts_own number p vote l s
-own_so number p vote l x uses send s h u e = goes_so (note.Waits l.leader.txn) (asked_at number s.me (with_vote number vote l)) x uses send s (after_own_vote l.leader.txn p vote s) h e
-    (ap (λ (us : List Use). keeping false l.leader.txn us s) u ∙ keeps_voted vote l.leader.txn p s)
+pub own_so : (number : ℕ) (p : Part) (vote : Vote) (l x : Leading) (uses : List Use) (files : List (List ℕ)) (send : List (Peer × Msg)) (s : Server)
+    → x ≡ asked_at number s.me (with_vote number vote l) → uses ≡ uses_voted vote p.uses → files ≡ files_voted vote p.freeze → send ≡ recalls_for vote s p
+    → goes_on (note.Waits l.leader.txn) x send (keeping false x.leader.txn uses files s) ≡ counts_own number p vote l s
+own_so number p vote l x uses files send s h u f e =
+    goes_so (note.Waits l.leader.txn) (asked_at number s.me (with_vote number vote l)) x uses files send (recalls_for vote s p) s
+    (after_own_vote l.leader.txn p vote s) h e
+    (ap₂ (λ (us : List Use) (fs : List (List ℕ)). keeping false l.leader.txn us fs s) u f ∙ keeps_voted vote l.leader.txn p s)
 
 -- ## Another server is asked
 
-pub seeks_so : (number to : ℕ) (p : Part) (l : Leading) (s : Server) (x : Leading) (uses : List Use) (send : List (Peer × Msg)) (d : Decided) → x ≡ asked_at number to l
-    → uses ≡ [] → send ≡ to_server to (ask_for l.leader.txn number l.leader.session p) ∷ [] → d ≡ waits_by false (note.Seeks l.leader.txn to) x uses send
-    → stepped_by d s ≡ seeks number to p l s
-seeks_so number to p l s x uses send d h u m e =
+pub seeks_so : (number to : ℕ) (p : Part) (l : Leading) (s : Server) (x : Leading) (uses : List Use) (files : List (List ℕ)) (send : List (Peer × Msg))
+    (d : Decided) → x ≡ asked_at number to l → uses ≡ [] → files ≡ [] → send ≡ to_server to (ask_for l.leader.txn number l.leader.session p) ∷ []
+    → d ≡ waits_by false (note.Seeks l.leader.txn to) x uses files send → stepped_by d s ≡ seeks number to p l s
+seeks_so number to p l s x uses files send d h u f m e =
     let n : ServerNote = note.Seeks l.leader.txn to in
-    waits_so false n x uses send s d e
-    ∙ ap (λ (z : Leading). waits n z send (keeping false z.leader.txn uses s)) h
-    ∙ ap (λ (us : List Use). waits n (asked_at number to l) send (keeping false l.leader.txn us s)) u
+    waits_so false n x uses files send s d e
+    ∙ ap (λ (z : Leading). waits n z send (keeping false z.leader.txn uses files s)) h
+    ∙ ap₂ (λ (us : List Use) (fs : List (List ℕ)). waits n (asked_at number to l) send (keeping false l.leader.txn us fs s)) u f
     ∙ ap₂ (λ (ms : List (Peer × Msg)) (t : Server). waits n (asked_at number to l) ms t) m (keeps_none l.leader.txn s)
 
-pub seeks_can : (number to : ℕ) (p : Part) (l : Leading) (s : Server) (x : Leading) (uses : List Use) (send : List (Peer × Msg)) (d : Decided) → IsReady s → IsWhole l
-    → x ≡ asked_at number to l → d ≡ waits_by false (note.Seeks l.leader.txn to) x uses send → CanDecide d s
-seeks_can number to p l s x uses send d r w h e =
-    waits_can false (note.Seeks l.leader.txn to) x uses send s d r (subst IsWhole (sym h) (asked_whole number to l w)) (λ f. absurd (cc f)) e
+pub seeks_can : (number to : ℕ) (p : Part) (l : Leading) (s : Server) (x : Leading) (uses : List Use) (files : List (List ℕ)) (send : List (Peer × Msg))
+    (d : Decided) → IsReady s → IsWhole l → x ≡ asked_at number to l → d ≡ waits_by false (note.Seeks l.leader.txn to) x uses files send → CanDecide d s
+seeks_can number to p l s x uses files send d r w h e =
+    waits_can false (note.Seeks l.leader.txn to) x uses files send s d r (subst IsWhole (sym h) (asked_whole number to l w)) (λ f. absurd (cc f)) e
 
 -- ## Parts that are done
 

@@ -1,10 +1,11 @@
 -- Parts that other servers ask for.
 use mathlib.Core.Path.{fun_ext}
 use Rattle.std.proofs.Common.{◌≡◌, ◌&&◌, ◌==◌, ◌||◌, ◌+◌, ℕ, max, Bool, true, false, not, List, [], ◌∷◌, ◌++◌, cond, refl, ap, ap₂, sym, ◌∙◌, subst, map}
-use Rattle.std.specs.Prelude.{None, nat_lt}
+use Rattle.std.specs.Prelude.{Option, Some, None, nat_lt}
 use Rattle.std.specs.List.{filter, find}
 use Rattle.fs_ident.specs.In.{In}
 use Rattle.fs_ident.proofs.Standing.{In-map, none_pass}
+use Rattle.fs_ident.specs.declared.actor.PathNo.{PathNo}
 use Rattle.fs_ident.specs.declared.actor.Session.{Session}
 use Rattle.fs_ident.specs.declared.actor.TxnNo.{TxnNo}
 use Rattle.fs_field.specs.Field.{same_field}
@@ -26,14 +27,14 @@ use Rattle.fs_rows.specs.Given.{AreGiven}
 use Rattle.fs_rows.proofs.Numbers.{given_map}
 use Rattle.fs_txn.specs.Decided.{AreDecided}
 use Rattle.fs_txn.specs.Locks.{rows_unlocked}
-use Rattle.fs_txn.specs.Preparing.{moved_to, row_locked, rows_locked, vote_by, vote_on}
+use Rattle.fs_txn.specs.Preparing.{moved_to, path_against, row_locked, rows_locked, vote_by, vote_on}
 use Rattle.fs_txn.specs.Ready.{is_awaited, is_prepared, records_decided, rows_left_by, without_prepared}
 use Rattle.fs_txn.specs.Stages.{is_yes}
 use Rattle.fs_txn.specs.declared.ready.Ready.{Ready}
 use Rattle.fs_txn.proofs.Locking.{HasLockedRow, locked_in_table, not_not, used_same, yes_by, yes_here}
 use Rattle.fs_txn.proofs.Waiting.{decided_once, in_their_order, last_waits, part_itself}
 use Rattle.fs_server.specs.Decided.{CanDecide, stepped_by, voted_change}
-use Rattle.fs_server.specs.Follows.{after_vote, applies, decide_step, prepare_step, ready_of, vote_here, votes, with_part}
+use Rattle.fs_server.specs.Follows.{after_vote, applies, decide_step, path_in_the_way, paths_kept, paths_left_by, prepare_step, ready_of, vote_here, votes, with_part}
 use Rattle.fs_server.specs.Grants.{IsReady}
 use Rattle.fs_server.specs.Plan.{CanChange, changed}
 use Rattle.fs_server.specs.Rows.{AreRows, rows_off_modes, rows_on_modes}
@@ -44,9 +45,9 @@ use Rattle.fs_server.specs.declared.change.Change.TheVariants as change
 use Rattle.fs_server.specs.declared.decide.Decided.{Decided}
 use Rattle.fs_server.specs.declared.out.ServerOut.{ServerOut}
 use Rattle.fs_server.specs.declared.state.Server.{Server}
-use Rattle.fs_server.proofs.Kept.{leased_rows, with_parts}
+use Rattle.fs_server.proofs.Kept.{leased_rows, with_parts, with_tables}
 use Rattle.fs_server.proofs.Effects.{all_filtered}
-use Rattle.fs_server.proofs.Leading.{no_path, same_gone}
+use Rattle.fs_server.proofs.Leading.{same_gone}
 
 -- ## Rows that change and stay the same leases
 
@@ -70,14 +71,25 @@ gone_same f same rows by uses = ap (λ test. find test uses) (fun_ext (λ (u : U
 
 -- ## A vote
 
--- it is that of the rows of both tables
-pub vote_is : (s : Server) (by : Session) (p : Part) → vote_here s by p ≡ vote_on (rows_off_modes s.rows) (rows_on_modes s.rows) s.map s.me s.last by p None
-vote_is s by p = ap₂ (λ o q. cond (is_mine s p.file) (vote_by o q s.last) (moved_to (longest s.map p.file))) (sym (same_gone s.rows by p.uses)) (sym (no_path p.freeze))
+-- where the part keeps no file, no path is in its way
+same_path : (s : Server) (o : Option (List ℕ)) → path_against o (path_in_the_way s o) ≡ path_in_the_way s o
+same_path s None = refl
+same_path s (Some file) = refl
+
+-- it is that of the rows of both tables, and of the path leases that are given out
+pub vote_is : (s : Server) (by : Session) (p : Part)
+    → vote_here s by p ≡ vote_on (rows_off_modes s.rows) (rows_on_modes s.rows) s.map s.me s.last by p (path_in_the_way s p.freeze)
+vote_is s by p =
+    ap₂ (λ o q. cond (is_mine s p.file) (vote_by o q s.last) (moved_to (longest s.map p.file))) (sym (same_gone s.rows by p.uses))
+    (sym (same_path s p.freeze))
 
 part_ready : (x : Ready) (s : Server) → IsReady s → IsReady (with_part x s)
-part_ready x s r = with_parts s s.records (rows_locked x.txn x.part.uses s.rows) (s.prepared ++ x ∷ []) r
+part_ready x s r =
+    let rows : List Row = rows_locked x.txn x.part.uses s.rows in
+    with_tables (record s { rows = rows; prepared = s.prepared ++ x ∷ [] }) (paths_kept x.txn x.part.freeze s.paths)
+    (with_parts s s.records rows (s.prepared ++ x ∷ []) r
     (given_map s.me s.given (row_locked x.txn x.part.uses) (used_same x.txn x.part.uses) s.rows r.server.numbers)
-    (leased_rows (row_locked x.txn x.part.uses) (used_same x.txn x.part.uses) s.rows r.table)
+    (leased_rows (row_locked x.txn x.part.uses) (used_same x.txn x.part.uses) s.rows r.table))
 
 voted_so : (vote : Vote) (m : Prepare) (s : Server) → changed (voted_change vote m) s ≡ after_vote vote (ready_of m) s
 voted_so Yes m s = refl
@@ -120,8 +132,11 @@ left_given me given txn left rows n = elim (is_awaited txn left) as (λ b. AreGi
 
 decided_ready : (txn : TxnNo) (number : ℕ) (effects removals : List Effect) (s : Server) → IsReady s → IsReady (changed (change.Decide txn number effects removals) s)
 decided_ready txn number effects removals s r =
-    let left = without_prepared txn number s.prepared in
-    with_parts s (records_after_all (records_after_all s.records effects) removals) (rows_left_by txn left s.rows) left r (left_given s.me s.given txn left s.rows r.server.numbers) (left_rows txn left s.rows r.table)
+    let left : List Ready = without_prepared txn number s.prepared in
+    let t : Server = changed (change.Decide txn number effects removals) s in
+    with_tables (record s { records = t.records; rows = t.rows; prepared = left }) (paths_left_by txn left s.paths)
+    (with_parts s t.records (rows_left_by txn left s.rows) left r (left_given s.me s.given txn left s.rows r.server.numbers)
+    (left_rows txn left s.rows r.table))
 
 abbrev pub decided_by : Decide → Change
 decided_by m = change.Decide m.txn m.number (filter is_undoable m.effects) (filter takes_away m.effects)
@@ -158,7 +173,10 @@ never_over rows now skew by u q = (
 
 yes_has : (s : Server) (by : Session) (p : Part) → vote_here s by p ≡ Yes → (u : Use) → In u p.uses → has_row s.rows by u ≡ true
 yes_has s by p h u i =
-    let none : first_gone s.rows by p.uses ≡ None = yes_by (first_gone s.rows by p.uses) None s.last (yes_here (is_mine s p.file) (vote_by (first_gone s.rows by p.uses) None s.last) (moved_to (longest s.map p.file)) (λ e. absurd (cc e)) h) in
+    let out : Option PathNo = path_in_the_way s p.freeze in
+    let none : first_gone s.rows by p.uses ≡ None =
+    yes_by (first_gone s.rows by p.uses) out s.last
+    (yes_here (is_mine s p.file) (vote_by (first_gone s.rows by p.uses) out s.last) (moved_to (longest s.map p.file)) (λ e. absurd (cc e)) h) in
     not_not (has_row s.rows by u) (none_pass (λ x. not (has_row s.rows by x)) p.uses none u i)
 
 pub yes_rows : (s : Server) (now from : ℕ) (m : Prepare) → (prepare_step from m s).out.note ≡ note.Votes m.txn Yes → (u : Use) → In u m.part.uses → HasLockedRow (begun now (prepare_step from m s).server).rows m.session u

@@ -3,6 +3,7 @@ use Rattle.std.proofs.Common.{◌≡◌, ◌==◌, ◌&&◌, ◌+◌, ◌<◌, �
 use Rattle.std.proofs.Common.{[], ◌∷◌, ◌++◌, cond, length, map, refl, ap, ap₂, ◌∙◌, subst, arith}
 use Rattle.std.specs.Prelude.{Option, Some, None, is_some, slice_get}
 use Rattle.std.specs.List.{filter, flat_map}
+use Rattle.std.proofs.lemmas.Bool.{not-true}
 use Rattle.std.proofs.lemmas.Bool.Decides.{nat_tests}
 use Rattle.std.proofs.lemmas.List.{append-nil}
 use Rattle.fs_ident.specs.In.{In}
@@ -41,13 +42,14 @@ use Rattle.fs_server.specs.Begins.{Round, asked_part, first_round, leader_with, 
 use Rattle.fs_server.specs.Concludes.{admitted_of, concludes, end_of_decision, ends_now, goes_on, tells, waits}
 use Rattle.fs_server.specs.Counts.{after_own_vote, asked_at, comes_home, counts, counts_own, done_of, done_step, done_with, seeks, sent_on}
 use Rattle.fs_server.specs.Counts.{vote_of, vote_step, voted, with_vote}
-use Rattle.fs_server.specs.Follows.{to_server, vote_here}
+use Rattle.fs_server.specs.Follows.{recalls_for, to_server, vote_here}
 use Rattle.fs_server.specs.LeadingLaws.{awaits_this, awaits_vote, of_number}
-use Rattle.fs_server.specs.Leads.{lead_step}
+use Rattle.fs_server.specs.Leads.{lead_step, mode_of}
 use Rattle.fs_server.specs.Server.{Stepped, is_mine, strange, to_session}
 use Rattle.fs_server.specs.declared.state.Server.{Server}
 use Rattle.fs_server.proofs.Following.{none_kept}
 use Rattle.fs_server.proofs.Leading.{LeadEnds, begun, lead_ends, put_off, unled}
+use Rattle.fs_server.proofs.Splitting.{passes}
 
 -- ## What nobody awaits
 
@@ -95,6 +97,12 @@ last_is_done m s x f a e r i =
     let its : x.txn ≡ m.txn = txn_is x.txn m.txn (found (λ (y : Ending). same_txn y.txn m.txn) s.ending x f).1 in
     none_kept m.txn s.rows r (subst (In r) (ap (λ (t : Stepped). t.server.rows) (done_so m s x [] f a e)
     ∙ ap (λ txn. rows_unlocked txn s.rows) its) i)
+
+-- ## Files that are kept
+
+pub decision_frees : (l : Leading) (sent : List (Peer × Msg)) (s : Server) (x : List ℕ × TxnNo) → In x (concludes l sent s).server.paths.frozen
+    → same_txn x.1 l.leader.txn ≡ false
+decision_frees l sent s x i = not-true (same_txn x.1 l.leader.txn) (passes (λ y. not (same_txn y.1 l.leader.txn)) x s.paths.frozen i)
 
 -- ## What the session is told
 
@@ -236,9 +244,9 @@ lead_unadmitted by m s = at (lead_step by m s) (lead_ends by m s)
     at x (unled l) h = refl
     at x (put_off w l r) h = refl
     at x (begun l r) h =
-        let g : Round = round_of by m s in
-        goes_on_unadmitted (note.Prepares (txn_of s)) (record { leader = leader_with (txn_of s) by m g.votes; at = g.at }) g.send g.server h
-        ∙ rounds_records (txn_of s) 0 by (parts_in m) (first_round s)
+        let g : Round = round_of (mode_of m.op m.kind) by m s in
+        goes_on_unadmitted (note.Prepares (txn_of s)) (record { leader = leader_with (mode_of m.op m.kind) (txn_of s) by m g.votes; at = g.at }) g.send g.server h
+        ∙ rounds_records (txn_of s) 0 by (parts_in (mode_of m.op m.kind) m) (first_round s)
 
 pub vote_unadmitted : (m : Voted) (s : Server) → (vote_step m s).out.admitted ≡ [] → (vote_step m s).server.records ≡ s.records
 vote_unadmitted m s = at (leading_of m.txn s.leading)
@@ -251,8 +259,8 @@ vote_unadmitted m s = at (leading_of m.txn s.leading)
         (seeks m.number (server_of s.map p.file) p l s)).out.admitted ≡ []
         → (cond b (counts_own m.number p (vote_here s l.leader.session p) l s)
         (seeks m.number (server_of s.map p.file) p l s)).server.records ≡ s.records
-    home p l true h = counted (vote_here s l.leader.session p) (asked_at m.number s.me l)
-        (after_own_vote l.leader.txn p (vote_here s l.leader.session p) s) h
+    home p l true h = let v : Vote = vote_here s l.leader.session p in goes_on_unadmitted (note.Waits l.leader.txn)
+        (with_vote m.number v (asked_at m.number s.me l)) (recalls_for v s p) (after_own_vote l.leader.txn p v s) h
     home p l false h = refl
 
     sent : (to : ℕ) (l : Leading) (o : Option Part) → (sent_on m.number to o l s).out.admitted ≡ []

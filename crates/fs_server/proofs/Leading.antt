@@ -1,6 +1,6 @@
 -- How an operation ends that a session asks the server to lead.
 use Rattle.std.proofs.Common.{◌≡◌, ◌⊎◌, ◌==◌, ◌&&◌, ◌+◌, ◌<◌, ◌^◌, ℕ, Bool, true, false, not, List}
-use Rattle.std.proofs.Common.{refl, ap, sym, ◌∙◌, cond, inl, inr, arith}
+use Rattle.std.proofs.Common.{refl, ap, ap₂, sym, ◌∙◌, cond, inl, inr, arith}
 use mathlib.Core.Path.{fun_ext}
 use Rattle.std.specs.Prelude.{Option, Some, None, nat_le, nat_lt}
 use Rattle.std.specs.List.{find, list_any}
@@ -22,7 +22,7 @@ use Rattle.fs_record.specs.declared.led_end.Why.TheVariants as why
 use Rattle.fs_txn.specs.Numbers.{next_txn}
 use Rattle.fs_txn.specs.Preparing as prepare
 use Rattle.fs_server.specs.Begins.{begins, txn_of}
-use Rattle.fs_server.specs.Leads.{is_led, is_over_paths, lead_refusal, lead_step, leads_unless, moved_why, refuses}
+use Rattle.fs_server.specs.Leads.{is_led, lead_refusal, lead_step, leads_unless, mode_of, moved_why, refuses, wants_path}
 use Rattle.fs_server.specs.Rows.{is_off_modes, rows_off_modes, rows_on_modes}
 use Rattle.fs_server.specs.Server.{Stepped, is_mine, strange}
 use Rattle.fs_server.specs.Ships.{first_gone, has_row}
@@ -35,7 +35,7 @@ use Rattle.fs_server.proofs.Parts.{any_part, same_part}
 pub data LeadEnds (by : Session) (m : Lead) (s : Server) : Stepped → Type 0 where
   unled : is_led m.op ≡ false → LeadEnds by m s (strange s)
   put_off : (w : Why) → is_led m.op ≡ true → lead_refusal s m ≡ Some w → LeadEnds by m s (refuses by w s)
-  begun : is_led m.op ≡ true → lead_refusal s m ≡ None → LeadEnds by m s (begins by m s)
+  begun : is_led m.op ≡ true → lead_refusal s m ≡ None → LeadEnds by m s (begins (mode_of m.op m.kind) by m s)
 
 pub lead_ends : (by : Session) (m : Lead) (s : Server) → LeadEnds by m s (lead_step by m s)
 lead_ends by m s = asked (is_led m.op) refl
@@ -51,12 +51,12 @@ lead_ends by m s = asked (is_led m.op) refl
 -- ## Refusals
 
 abbrev refusal_by : Server → Lead → Bool → Bool → Option Why
-refusal_by s m mine over = cond mine (cond over (Some (why.Wanted (home_of m.op))) None) (Some (moved_why (longest s.map (home_of m.op))))
+refusal_by s m mine wants = cond mine (cond wants (Some (why.Wanted (home_of m.op))) None) (Some (moved_why (longest s.map (home_of m.op))))
 
 -- it is to be asked elsewhere, or its home is wanted
 pub refusal_is : (s : Server) (m : Lead) (w : Why) → lead_refusal s m ≡ Some w
     → ((is_mine s (home_of m.op) ≡ false) × (w ≡ moved_why (longest s.map (home_of m.op)))) ⊎ (w ≡ why.Wanted (home_of m.op))
-refusal_is s m w h = by (is_mine s (home_of m.op)) (is_over_paths s m.op m.kind) refl h
+refusal_is s m w h = by (is_mine s (home_of m.op)) (wants_path s m.op m.kind) refl h
   where
     by : (a b : Bool) → is_mine s (home_of m.op) ≡ a → refusal_by s m a b ≡ Some w
         → ((is_mine s (home_of m.op) ≡ false) × (w ≡ moved_why (longest s.map (home_of m.op)))) ⊎ (w ≡ why.Wanted (home_of m.op))
@@ -65,11 +65,11 @@ refusal_is s m w h = by (is_mine s (home_of m.op)) (is_over_paths s m.op m.kind)
     by true false mine e = absurd (cc)
 
 pub none_refuses : (s : Server) (m : Lead) → lead_refusal s m ≡ None
-    → (is_mine s (home_of m.op) ≡ true) × (is_over_paths s m.op m.kind ≡ false)
-none_refuses s m h = by (is_mine s (home_of m.op)) (is_over_paths s m.op m.kind) refl refl h
+    → (is_mine s (home_of m.op) ≡ true) × (wants_path s m.op m.kind ≡ false)
+none_refuses s m h = by (is_mine s (home_of m.op)) (wants_path s m.op m.kind) refl refl h
   where
-    by : (a b : Bool) → is_mine s (home_of m.op) ≡ a → is_over_paths s m.op m.kind ≡ b → refusal_by s m a b ≡ None
-        → (is_mine s (home_of m.op) ≡ true) × (is_over_paths s m.op m.kind ≡ false)
+    by : (a b : Bool) → is_mine s (home_of m.op) ≡ a → wants_path s m.op m.kind ≡ b → refusal_by s m a b ≡ None
+        → (is_mine s (home_of m.op) ≡ true) × (wants_path s m.op m.kind ≡ false)
     by true false p q e = (p, q)
     by true true p q e = absurd (cc)
     by false b p q e = absurd (cc)
@@ -121,13 +121,22 @@ in_its_table rows by u = at (tells_no_mode u.field) refl
 pub same_gone : (rows : List Row) (by : Session) (uses : List Use) → prepare.first_gone (rows_off_modes rows) (rows_on_modes rows) by uses ≡ first_gone rows by uses
 same_gone rows by uses = ap (λ test. find test uses) (fun_ext (λ u. ap not (in_its_table rows by u)))
 
-pub no_path : (o : Option (List ℕ)) → prepare.path_against o None ≡ None
-no_path None = refl
-no_path (Some file) = refl
-
 -- ## Laws
 
-pub led_at_home : (by : Session) (m : Lead) (s : Server) → is_led m.op ≡ true → is_mine s (home_of m.op) ≡ false → lead_step by m s ≡ refuses by (moved_why (longest s.map (home_of m.op))) s
+pub led_at_home : (by : Session) (m : Lead) (s : Server) → is_led m.op ≡ true → is_mine s (home_of m.op) ≡ false
+    → lead_step by m s ≡ refuses by (moved_why (longest s.map (home_of m.op))) s
 led_at_home by m s l h =
     ap (λ b. cond b (leads_unless (lead_refusal s m) by m s) (strange s)) l
-    ∙ ap (λ b. leads_unless (refusal_by s m b (is_over_paths s m.op m.kind)) by m s) h
+    ∙ ap (λ b. leads_unless (refusal_by s m b (wants_path s m.op m.kind)) by m s) h
+
+pub wanted_at_home : (by : Session) (m : Lead) (s : Server) → is_led m.op ≡ true → is_mine s (home_of m.op) ≡ true
+    → wants_path s m.op m.kind ≡ true → lead_step by m s ≡ refuses by (why.Wanted (home_of m.op)) s
+wanted_at_home by m s l h w =
+    ap (λ b. cond b (leads_unless (lead_refusal s m) by m s) (strange s)) l
+    ∙ ap₂ (λ a b. leads_unless (refusal_by s m a b) by m s) h w
+
+pub begun_at_home : (by : Session) (m : Lead) (s : Server) → is_led m.op ≡ true → is_mine s (home_of m.op) ≡ true
+    → wants_path s m.op m.kind ≡ false → lead_step by m s ≡ begins (mode_of m.op m.kind) by m s
+begun_at_home by m s l h w =
+    ap (λ b. cond b (leads_unless (lead_refusal s m) by m s) (strange s)) l
+    ∙ ap₂ (λ a b. leads_unless (refusal_by s m a b) by m s) h w

@@ -5,6 +5,7 @@ use Rattle.std.specs.Prelude.{Option, Some, None, is_some}
 use Rattle.std.specs.List.{filter, find, flat_map}
 use Rattle.std.proofs.lemmas.List.{append-nil, length-map}
 use Rattle.fs_ident.proofs.Same.{itself}
+use Rattle.fs_ident.specs.declared.actor.Peer.{Peer}
 use Rattle.fs_ident.specs.declared.actor.Session.{Session}
 use Rattle.fs_ident.specs.declared.actor.TxnNo.{TxnNo}
 use Rattle.fs_field.specs.Table.{is_lock_of, same_txn, unlocked_row}
@@ -14,6 +15,7 @@ use Rattle.fs_field.specs.declared.used.Part.{Part}
 use Rattle.fs_field.specs.declared.used.Use.{Use}
 use Rattle.fs_msg.specs.declared.lead.Lead.{Lead}
 use Rattle.fs_msg.specs.declared.answer.Answer.TheVariants as answer
+use Rattle.fs_msg.specs.declared.msg.Msg.{Msg}
 use Rattle.fs_msg.specs.declared.server_note.ServerNote.TheVariants as note
 use Rattle.fs_record.specs.Applied.{records_after_all}
 use Rattle.fs_record.specs.LedEffects.{led_effects}
@@ -26,6 +28,7 @@ use Rattle.fs_txn.specs.declared.decision.Decision.{Decision}
 use Rattle.fs_txn.specs.declared.decision.Decision.TheVariants.{Commit, Abort}
 use Rattle.fs_txn.specs.declared.leading.Ending.{Ending}
 use Rattle.fs_txn.specs.declared.leading.Leading.{Leading}
+use Rattle.fs_txn.specs.declared.mode.Mode2.{Mode2}
 use Rattle.fs_txn.proofs.Keys.{txn_is, txn_itself}
 use Rattle.fs_txn.proofs.Locking.{locked}
 use Rattle.fs_txn.proofs.Yeses.{commit_yes}
@@ -33,12 +36,13 @@ use Rattle.fs_server.specs.Begins.{begins, begun_with, leader_with, parts_in, ro
 use Rattle.fs_server.specs.Concludes.{admitted_of, concludes, end_note, end_of_decision, ends_with, waits}
 use Rattle.fs_server.specs.Follows.{vote_here}
 use Rattle.fs_server.specs.Gathered.{gathered_by, keeping}
-use Rattle.fs_server.specs.Laws.{all_effects, concluded, has_all, votes_here}
+use Rattle.fs_server.specs.Laws.{all_effects, concluded, has_all, recalls_here, votes_here}
 use Rattle.fs_server.specs.LeadingLaws.{HasNextTxn, IsNewTxn}
-use Rattle.fs_server.specs.Leads.{is_led, lead_refusal, lead_step, leads_unless}
+use Rattle.fs_server.specs.Leads.{is_led, lead_refusal, lead_step, leads_unless, mode_of}
 use Rattle.fs_server.specs.Server.{strange, to_session}
 use Rattle.fs_server.specs.declared.state.Server.{Server}
-use Rattle.fs_server.proofs.Gathering.{all_gathered, all_own, first_gathered, nothing_gathered, own_votes, uses_kept}
+use Rattle.fs_server.proofs.Gathering.{all_gathered, all_own, files_kept, first_gathered, nothing_gathered, own_votes, uses_kept}
+use Rattle.fs_server.proofs.Goes.{files_back}
 use Rattle.fs_server.proofs.LeaderLaws.{abort_changes_none}
 use Rattle.fs_server.proofs.Splitting.{commit_effects, picked, told_picked}
 
@@ -114,21 +118,27 @@ never_kept : (b : Bool) (x y : List Row) → cond (b && false) x y ≡ y
 never_kept true x y = refl
 never_kept false x y = refl
 
-module _ (by : Session) (m : Lead) (s : Server) where
+module _ (mode : Mode2) (by : Session) (m : Lead) (s : Server) where
   abbrev votes : Votes
-  votes = votes_here by m s
+  votes = votes_here mode by m s
 
   abbrev used : List Use
-  used = uses_kept s by (parts_in m)
+  used = uses_kept s by (parts_in mode m)
+
+  abbrev kept : List (List ℕ)
+  kept = files_kept s by (parts_in mode m)
+
+  abbrev back : List (Peer × Msg)
+  back = recalls_here mode by m s
 
   abbrev its : Leading
-  its = record { leader = leader_with (txn_of s) by m votes; at = map (λ (p : Part). s.me) (parts_in m) }
+  its = record { leader = leader_with mode (txn_of s) by m votes; at = map (λ (p : Part). s.me) (parts_in mode m) }
 
   abbrev decided : Decision
   decided = decision its.leader None
 
   as_many_asked : length its.at ≡ length its.leader.votes
-  as_many_asked = length-map (parts_in m) (λ (p : Part). s.me) ∙ sym (length-map (parts_in m) (λ (p : Part). Some (vote_here s by p)))
+  as_many_asked = length-map (parts_in mode m) (λ (p : Part). s.me) ∙ sym (length-map (parts_in mode m) (λ (p : Part). Some (vote_here s by p)))
 
   -- all its effects are here
   effects_here : own_effects s.me its decided ≡ all_effects decided
@@ -138,29 +148,29 @@ module _ (by : Session) (m : Lead) (s : Server) where
       at (Abort e) q = abort_changes_none s.me its e
       at (Commit r effects) q =
           let is : effects ≡ map (λ (p : Part). effects_on (led_effects m.op m.file r) p.file)
-          (parts_in m) = commit_effects its.leader r effects q in
+          (parts_in mode m) = commit_effects its.leader r effects q in
           let as_many : length effects ≡ length its.leader.votes = ap length is
-          ∙ length-map (parts_in m) (λ (p : Part). effects_on (led_effects m.op m.file r) p.file)
-          ∙ sym (length-map (parts_in m) (λ (p : Part). Some (vote_here s by p))) in
+          ∙ length-map (parts_in mode m) (λ (p : Part). effects_on (led_effects m.op m.file r) p.file)
+          ∙ sym (length-map (parts_in mode m) (λ (p : Part). Some (vote_here s by p))) in
           told_picked (λ k. k == s.me) r effects its (commit_yes its.leader None r effects q) as_many_asked as_many
           ∙ ap (picked (λ k. k == s.me) its.at) is
-          ∙ all_picked s.me (λ (p : Part). effects_on (led_effects m.op m.file r) p.file) (parts_in m)
+          ∙ all_picked s.me (λ (p : Part). effects_on (led_effects m.op m.file r) p.file) (parts_in mode m)
           ∙ ap (flat_map (λ (es : List Effect). es)) (sym is)
 
-  gathered_here : has_all s (parts_in m) ≡ true → begins by m s
-      ≡ begun_with by m (txn_of s) (gathered_by (all_own by (parts_in m) s nothing_gathered) (txn_of s) s)
-  gathered_here h = ap (begun_with by m (txn_of s))
-      (ap (rounds (txn_of s) 0 by (parts_in m)) (sym (first_gathered (txn_of s) s))
-      ∙ all_gathered (txn_of s) 0 by (parts_in m) s nothing_gathered h)
+  gathered_here : has_all s (parts_in mode m) ≡ true → begins mode by m s
+      ≡ begun_with mode by m (txn_of s) (gathered_by (all_own by (parts_in mode m) s nothing_gathered) (txn_of s) s)
+  gathered_here h = ap (begun_with mode by m (txn_of s))
+      (ap (rounds (txn_of s) 0 by (parts_in mode m)) (sym (first_gathered (txn_of s) s))
+      ∙ all_gathered (txn_of s) 0 by (parts_in mode m) s nothing_gathered h)
 
-  full_here : begun_with by m (txn_of s) (gathered_by (all_own by (parts_in m) s nothing_gathered) (txn_of s) s)
-      ≡ concludes its [] (keeping true (txn_of s) used s)
-  full_here = ap (λ b. cond b (concludes its [] (keeping true (txn_of s) used s))
-      (waits (note.Prepares (txn_of s)) its [] (keeping true (txn_of s) used s))) (all_full s by (parts_in m))
+  full_here : begun_with mode by m (txn_of s) (gathered_by (all_own by (parts_in mode m) s nothing_gathered) (txn_of s) s)
+      ≡ concludes its back (keeping true (txn_of s) used kept s)
+  full_here = ap (λ b. cond b (concludes its back (keeping true (txn_of s) used kept s))
+      (waits (note.Prepares (txn_of s)) its back (keeping true (txn_of s) used kept s))) (all_full s by (parts_in mode m))
 
-  concluded_here : HasNextTxn s → concludes its [] (keeping true (txn_of s) used s) ≡ concluded decided by m s
+  concluded_here : HasNextTxn s → concludes its back (keeping true (txn_of s) used kept s) ≡ concluded decided mode by m s
   concluded_here n =
-      ap (λ out. ends_with decided out its [] (keeping true (txn_of s) used s)) (none_elsewhere s.me 0 votes (parts_in m))
+      ap (λ out. ends_with decided out its back (keeping true (txn_of s) used kept s)) (none_elsewhere s.me 0 votes (parts_in mode m))
       ∙ λ i. record {
         server = record s {
           txns = s.txns + 1;
@@ -170,19 +180,23 @@ module _ (by : Session) (m : Lead) (s : Server) where
           leading = none_left_out (λ (l : Leading). same_txn l.leader.txn (txn_of s)) s.leading n.leading i;
           ending = (append-nil (without_ending (txn_of s) s.ending)
               ∙ none_left_out (λ (x : Ending). same_txn x.txn (txn_of s)) s.ending n.ending) i;
+          paths = record s.paths { frozen = files_back (txn_of s) kept s.paths.frozen i };
         };
         out = record {
           note = end_note (txn_of s) (end_of_decision decided);
-          send = to_session by (answer.Led (end_of_decision decided)) ∷ [];
+          send = back ++ to_session by (answer.Led (end_of_decision decided)) ∷ [];
           admitted = admitted_of decided its.leader;
         };
       }
 
-  pub decided_here : is_led m.op ≡ true → lead_refusal s m ≡ None → has_all s (parts_in m) ≡ true → HasNextTxn s
-      → lead_step by m s ≡ concluded decided by m s
-  decided_here l r h n =
-      ap (λ b. cond b (leads_unless (lead_refusal s m) by m s) (strange s)) l
-      ∙ ap (λ o. leads_unless o by m s) r
-      ∙ gathered_here h
-      ∙ full_here
-      ∙ concluded_here n
+  decided_so : has_all s (parts_in mode m) ≡ true → HasNextTxn s → begins mode by m s ≡ concluded decided mode by m s
+  decided_so h n = gathered_here h ∙ full_here ∙ concluded_here n
+
+pub decided_here : (by : Session) (m : Lead) (mode : Mode2) (s : Server) → is_led m.op ≡ true → mode_of m.op m.kind ≡ mode
+    → lead_refusal s m ≡ None → has_all s (parts_in mode m) ≡ true → HasNextTxn s
+    → lead_step by m s ≡ concluded (decision (leader_with mode (txn_of s) by m (votes_here mode by m s)) None) mode by m s
+decided_here by m mode s l k r h n =
+    ap (λ b. cond b (leads_unless (lead_refusal s m) by m s) (strange s)) l
+    ∙ ap (λ o. leads_unless o by m s) r
+    ∙ ap (λ x. begins x by m s) k
+    ∙ decided_so mode by m s h n

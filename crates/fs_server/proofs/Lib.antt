@@ -22,6 +22,8 @@ mod Counting
 mod Goes
 mod Returning
 mod Gathering
+mod Keeping
+mod Freezing
 mod LeaderLaws
 pub mod Splitting
 mod LeadingHere

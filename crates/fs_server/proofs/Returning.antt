@@ -15,7 +15,7 @@ use Rattle.fs_msg.specs.declared.peer_msg.PeerMsg.{PeerMsg}
 use Rattle.fs_msg.specs.declared.peer_msg.PeerMsg.TheVariants as peer
 use Rattle.fs_msg.specs.declared.refusal.Refusal.TheVariants as refusal
 use Rattle.fs_msg.specs.declared.server_note.ServerNote.TheVariants as note
-use Rattle.fs_path.specs.Leases.{PathLease, goes_into, told}
+use Rattle.fs_path.specs.Leases.{PathLease, goes_into, named_to_peer}
 use Rattle.fs_path.specs.Returns.{after_recalled, give_back, goes_back, is_asked_in, is_into, is_needed, recalled, rests_on_asked}
 use Rattle.fs_path.specs.Tables.{frozen_for, holds, issued_to, lease_of}
 use Rattle.fs_path.specs.declared.having.Having.{Having}
@@ -81,7 +81,7 @@ abbrev is_back : List ℕ → Server → Having → Bool
 is_back prefix s h = goes_back (is_into s.map s.me prefix) s.paths.issued h
 
 abbrev told_of : Having → ℕ × PathNo
-told_of h = told (lease_of h)
+told_of h = named_to_peer (lease_of h)
 
 module _ (prefix : List ℕ) (to : ℕ) (number : PathNo) (s : Server) (e : StaysForPaths prefix to number s) where
   pub paths_noted : (move_step prefix to s).out.note ≡ note.Stays (refusal.Paths number)
@@ -98,9 +98,9 @@ module _ (prefix : List ℕ) (to : ℕ) (number : PathNo) (s : Server) (e : Stay
 
   pub paths_asked_back : (l : PathLease) → In l s.paths.issued → goes_into s.map s.me prefix l ≡ true → IsAskedBack l (move_step prefix to s).out.send
   paths_asked_back l i over = subst (λ send. IsAskedBack l send) (sym sent_so)
-      (In-front (recall_to (told l)) (path_recalls asked) (path_releases back)
-      (In-mapped recall_to (told l) asked
-      (In-mapped told l (filter (is_asked prefix s) s.paths.issued)
+      (In-front (recall_to (named_to_peer l)) (path_recalls asked) (path_releases back)
+      (In-mapped recall_to (named_to_peer l) asked
+      (In-mapped named_to_peer l (filter (is_asked prefix s) s.paths.issued)
       (passes (is_asked prefix s) l s.paths.issued i
       (or_first (goes_into s.map s.me prefix l) (rests_on_asked (is_into s.map s.me prefix) s.paths.held l) over)))))
 
@@ -117,7 +117,7 @@ module _ (prefix : List ℕ) (to : ℕ) (number : PathNo) (s : Server) (e : Stay
   paths_only m i = elim (In-append m (path_recalls asked) (path_releases back) (subst (λ send. In m send) sent_so i)) [
     | inl j ↦
         let x = In-map recall_to m asked j in
-        let l = In-map told x.0 (filter (is_asked prefix s) s.paths.issued) x.1.0 in
+        let l = In-map named_to_peer x.0 (filter (is_asked prefix s) s.paths.issued) x.1.0 in
         inl (l.0, In-filter (is_asked prefix s) l.0 s.paths.issued l.1.0, passed (is_asked prefix s) l.0 s.paths.issued l.1.0, x.1.1 ∙ ap recall_to l.1.1)
     | inr j ↦
         let x = In-map release_to m back j in

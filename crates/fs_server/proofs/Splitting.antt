@@ -177,7 +177,7 @@ out_yes n x (v ∷ vs) (k ∷ ks) j = by (out_yes (n + 1) x vs ks) (said_yes v) 
 
 -- ## What goes to others
 
-passes : {X : Type 0} (test : X → Bool) (x : X) (xs : List X) → In x (filter test xs) → test x ≡ true
+pub passes : {X : Type 0} (test : X → Bool) (x : X) (xs : List X) → In x (filter test xs) → test x ≡ true
 passes test x [] i = absurd i
 passes test x (y ∷ ys) i = by (test y) refl (passes test x ys) i
   where

@@ -12,16 +12,16 @@ use Rattle.fs_msg.specs.declared.server_note.ServerNote.TheVariants as note
 use Rattle.fs_txn.specs.Parts.{parts_of}
 use Rattle.fs_txn.specs.Votes.{Votes}
 use Rattle.fs_txn.specs.declared.leader.Leader.{Leader}
-use Rattle.fs_txn.specs.declared.mode.Mode2.TheVariants.{Plain}
+use Rattle.fs_txn.specs.declared.mode.Mode2.{Mode2}
 use Rattle.fs_server.specs.Concludes.{goes_on}
 use Rattle.fs_server.specs.Counts.{after_own_vote, ask_for}
-use Rattle.fs_server.specs.Follows.{to_server, vote_here}
+use Rattle.fs_server.specs.Follows.{recalls_for, to_server, vote_here}
 use Rattle.fs_server.specs.Server.{Stepped, is_mine}
 use Rattle.fs_server.specs.declared.state.Server.{Server}
 
 -- its parts, each with the leases on its file
-abbrev pub parts_in : Lead → List Part
-parts_in m = parts_of m.op m.file m.uses Plain
+abbrev pub parts_in : Mode2 → Lead → List Part
+parts_in mode m = parts_of m.op m.file m.uses mode
 
 -- the number of the next transaction
 abbrev pub txn_of : Server → TxnNo
@@ -36,13 +36,13 @@ pub record Round : Type 0 where
   pub at : List ℕ
   pub send : List (Peer × Msg)
 
--- a part that is here votes at once
+-- a part that is here votes at once; where a path is in the way, those are asked back
 abbrev pub own_part : TxnNo → Part → Vote → Round → Round
 own_part txn p v r = record {
   server = after_own_vote txn p v r.server;
   votes = r.votes ++ Some v ∷ [];
   at = r.at ++ r.server.me ∷ [];
-  send = r.send;
+  send = r.send ++ recalls_for v r.server p;
 }
 
 -- any other is asked for
@@ -68,24 +68,24 @@ rounds txn number by (p ∷ ps) r = rounds txn (number + 1) by ps (part_round tx
 abbrev pub first_round : Server → Round
 first_round s = record { server = record s { txns = s.txns + 1 }; votes = []; at = []; send = [] }
 
-abbrev pub round_of : Session → Lead → Server → Round
-round_of by m s = rounds (txn_of s) 0 by (parts_in m) (first_round s)
+abbrev pub round_of : Mode2 → Session → Lead → Server → Round
+round_of mode by m s = rounds (txn_of s) 0 by (parts_in mode m) (first_round s)
 
-abbrev pub leader_with : TxnNo → Session → Lead → Votes → Leader
-leader_with txn by m votes = record {
+abbrev pub leader_with : Mode2 → TxnNo → Session → Lead → Votes → Leader
+leader_with mode txn by m votes = record {
   txn = txn;
   session = by;
   n = m.n;
   op = m.op;
   file = m.file;
-  parts = parts_in m;
-  mode = Plain;
+  parts = parts_in mode m;
+  mode = mode;
   votes = votes;
 }
 
-abbrev pub begun_with : Session → Lead → TxnNo → Round → Stepped
-begun_with by m txn r = goes_on (note.Prepares txn) (record { leader = leader_with txn by m r.votes; at = r.at }) r.send r.server
+abbrev pub begun_with : Mode2 → Session → Lead → TxnNo → Round → Stepped
+begun_with mode by m txn r = goes_on (note.Prepares txn) (record { leader = leader_with mode txn by m r.votes; at = r.at }) r.send r.server
 
 -- every part votes or is asked for; where all have voted it is decided
-abbrev pub begins : Session → Lead → Server → Stepped
-begins by m s = begun_with by m (txn_of s) (round_of by m s)
+abbrev pub begins : Mode2 → Session → Lead → Server → Stepped
+begins mode by m s = begun_with mode by m (txn_of s) (round_of mode by m s)

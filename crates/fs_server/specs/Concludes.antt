@@ -22,7 +22,7 @@ use Rattle.fs_txn.specs.declared.decision.Decision.{Decision}
 use Rattle.fs_txn.specs.declared.decision.Decision.TheVariants.{Commit, Abort}
 use Rattle.fs_txn.specs.declared.leader.Leader.{Leader}
 use Rattle.fs_txn.specs.declared.leading.Leading.{Leading}
-use Rattle.fs_server.specs.Follows.{to_server}
+use Rattle.fs_server.specs.Follows.{paths_freed, to_server}
 use Rattle.fs_server.specs.Server.{Stepped, to_session}
 use Rattle.fs_server.specs.declared.state.Server.{Server}
 
@@ -55,7 +55,8 @@ ends_now (x ∷ xs) by e = []
 abbrev pub keeps_for : Decision → List (ℕ × ℕ) → Bool
 keeps_for d out = keeps_rows d && is_some (slice_get out 0)
 
--- the parts that are here are carried out; these others, each with its server, are told; before that this is sent
+-- the parts that are here are carried out, and the transaction keeps no file here any more; these others, each with its server, are
+-- told; before that this is sent
 abbrev pub ends_with : Decision → List (ℕ × ℕ) → Leading → List (Peer × Msg) → Server → Stepped
 ends_with d out l sent s = record {
   server = record s {
@@ -63,6 +64,7 @@ ends_with d out l sent s = record {
     rows = if keeps_for d out then s.rows else rows_unlocked l.leader.txn s.rows;
     leading = without_leading l.leader.txn s.leading;
     ending = with_ending (record { txn = l.leader.txn; session = l.leader.session; end = end_of_decision d; awaits = out }) s.ending;
+    paths = paths_freed l.leader.txn s.paths;
   };
   out = record {
     note = end_note l.leader.txn (end_of_decision d);
@@ -71,7 +73,7 @@ ends_with d out l sent s = record {
   };
 }
 
--- all parts have voted. There are no paths yet, so none counts
+-- all parts have voted. Where it would stand on a path it was not begun, so none counts
 abbrev pub concludes : Leading → List (Peer × Msg) → Server → Stepped
 concludes l sent s = ends_with (decision l.leader None) (elsewhere s.me l) l sent s
 

@@ -5,7 +5,7 @@ use Rattle.fs_ident.specs.declared.actor.Session.{Session}
 use Rattle.fs_ident.specs.declared.actor.TxnNo.{TxnNo}
 use Rattle.fs_field.specs.declared.used.Part.{Part}
 use Rattle.fs_field.specs.declared.vote.Vote.{Vote}
-use Rattle.fs_field.specs.declared.vote.Vote.TheVariants.{Moved}
+use Rattle.fs_field.specs.declared.vote.Vote.TheVariants.{Yes, Moved}
 use Rattle.fs_map.specs.Map.{server_of}
 use Rattle.fs_msg.specs.declared.answer.Answer.TheVariants as answer
 use Rattle.fs_msg.specs.declared.done.Done.{Done}
@@ -13,6 +13,7 @@ use Rattle.fs_msg.specs.declared.peer_msg.PeerMsg.{PeerMsg}
 use Rattle.fs_msg.specs.declared.peer_msg.PeerMsg.TheVariants as peer
 use Rattle.fs_msg.specs.declared.server_note.ServerNote.TheVariants as note
 use Rattle.fs_msg.specs.declared.voted.Voted.{Voted}
+use Rattle.fs_path.specs.Tables.{PathTables}
 use Rattle.fs_txn.specs.Leading.{awaits_done, ending_of, leading_of, with_ending, without_done}
 use Rattle.fs_txn.specs.Locks.{rows_unlocked}
 use Rattle.fs_txn.specs.Preparing.{rows_voted}
@@ -20,7 +21,7 @@ use Rattle.fs_txn.specs.Votes.{after_vote, awaits}
 use Rattle.fs_txn.specs.declared.leading.Ending.{Ending}
 use Rattle.fs_txn.specs.declared.leading.Leading.{Leading}
 use Rattle.fs_server.specs.Concludes.{goes_on, waits}
-use Rattle.fs_server.specs.Follows.{to_server, vote_here}
+use Rattle.fs_server.specs.Follows.{paths_kept, recalls_for, to_server, vote_here}
 use Rattle.fs_server.specs.Server.{Stepped, is_mine, strange, to_session}
 use Rattle.fs_server.specs.declared.state.Server.{Server}
 
@@ -39,9 +40,13 @@ seeks number to p l s =
 
 -- ## A vote
 
--- where the vote on a part of its own is Yes, the transaction keeps the rows of the part's leases
+-- where the vote on a part of its own is Yes, the transaction keeps the rows of the part's leases, and the file that the part names
+abbrev pub paths_voted : Vote → TxnNo → Option (List ℕ) → PathTables → PathTables
+paths_voted Yes txn file t = paths_kept txn file t
+paths_voted v txn file t = t
+
 abbrev pub after_own_vote : TxnNo → Part → Vote → Server → Server
-after_own_vote txn p v s = record s { rows = rows_voted v txn p.uses s.rows }
+after_own_vote txn p v s = record s { rows = rows_voted v txn p.uses s.rows; paths = paths_voted v txn p.freeze s.paths }
 
 abbrev pub with_vote : ℕ → Vote → Leading → Leading
 with_vote number v l = record l { leader = after_vote number v l.leader }
@@ -51,7 +56,8 @@ counts number v l s = goes_on (note.Waits l.leader.txn) (with_vote number v l) [
 
 -- this server votes on the part itself
 abbrev pub counts_own : ℕ → Part → Vote → Leading → Server → Stepped
-counts_own number p v l s = counts number v (asked_at number s.me l) (after_own_vote l.leader.txn p v s)
+counts_own number p v l s =
+    goes_on (note.Waits l.leader.txn) (with_vote number v (asked_at number s.me l)) (recalls_for v s p) (after_own_vote l.leader.txn p v s)
 
 -- another server believes that the part is here: where it is not, this one's map tells where to ask
 abbrev pub comes_home : ℕ → Part → Leading → Server → Stepped

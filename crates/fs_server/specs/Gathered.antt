@@ -1,5 +1,5 @@
 -- A transaction that begins or goes on, before anything is changed.
-use Rattle.std.specs.Prelude.{◌≡◌, ℕ, ◌+◌, ◌<◌, ◌^◌, Bool, true, List, [], ◌∷◌, ◌++◌, if◌then◌else◌}
+use Rattle.std.specs.Prelude.{◌≡◌, ℕ, ◌+◌, ◌<◌, ◌^◌, Bool, true, List, [], ◌∷◌, ◌++◌, Option, Some, None, if◌then◌else◌}
 use Rattle.std.specs.List.{filter}
 use Rattle.fs_ident.specs.declared.actor.Peer.{Peer}
 use Rattle.fs_ident.specs.declared.actor.TxnNo.{TxnNo}
@@ -11,6 +11,7 @@ use Rattle.fs_msg.specs.declared.answer.Answer.TheVariants as answer
 use Rattle.fs_msg.specs.declared.msg.Msg.{Msg}
 use Rattle.fs_msg.specs.declared.server_note.ServerNote.{ServerNote}
 use Rattle.fs_msg.specs.declared.server_note.ServerNote.TheVariants as note
+use Rattle.fs_path.specs.Tables.{with_all_frozen}
 use Rattle.fs_record.specs.Applied.{is_undoable, takes_away}
 use Rattle.fs_txn.specs.Leading.{IsWholeLeader, own_effects}
 use Rattle.fs_txn.specs.Preparing.{rows_locked}
@@ -34,13 +35,22 @@ abbrev pub uses_voted : Vote → List Use → List Use
 uses_voted Yes uses = uses
 uses_voted vote uses = []
 
--- the server where the transaction begins or goes on, and keeps the rows of these leases
-abbrev pub keeping : Bool → TxnNo → List Use → Server → Server
-keeping begins txn uses s = record s { txns = if begins then s.txns + 1 else s.txns; rows = rows_locked txn uses s.rows }
+-- the file that it lets it keep
+abbrev pub files_voted : Vote → Option (List ℕ) → List (List ℕ)
+files_voted Yes (Some file) = file ∷ []
+files_voted vote file = []
+
+-- the server where the transaction begins or goes on, and keeps the rows of these leases, and these files
+abbrev pub keeping : Bool → TxnNo → List Use → List (List ℕ) → Server → Server
+keeping begins txn uses files s = record s {
+  txns = if begins then s.txns + 1 else s.txns;
+  rows = rows_locked txn uses s.rows;
+  paths = record s.paths { frozen = with_all_frozen txn files s.paths.frozen };
+}
 
 -- the server, and what became of the first parts, where this was gathered
 abbrev pub gathered_by : Gathered → TxnNo → Server → Round
-gathered_by g txn s = record { server = keeping true txn g.uses s; votes = g.votes; at = g.at; send = g.send }
+gathered_by g txn s = record { server = keeping true txn g.uses g.files s; votes = g.votes; at = g.at; send = g.send }
 
 -- the server at this reading, which is the greatest so far
 abbrev pub begun_at : ℕ → Server → Server
@@ -49,9 +59,9 @@ begun_at reading s = record s { last = reading; rows = filter (is_live reading s
 -- ## What is decided
 
 -- votes are awaited
-abbrev pub waits_by : Bool → ServerNote → Leading → List Use → List (Peer × Msg) → Decided
-waits_by begins n l uses send = record {
-  change = Lead begins l.leader.txn uses (Waits l);
+abbrev pub waits_by : Bool → ServerNote → Leading → List Use → List (List ℕ) → List (Peer × Msg) → Decided
+waits_by begins n l uses files send = record {
+  change = Lead begins l.leader.txn uses files (Waits l);
   out = record { note = n; send = send; admitted = [] };
 }
 

@@ -2,6 +2,7 @@
 use Rattle.std.specs.Prelude.{◌≡◌, ◌⊎◌, ℕ, ◌+◌, Bool, true, false, List, [], ◌∷◌, ◌++◌, map, Option, Some, None, is_some, if◌then◌else◌}
 use Rattle.std.specs.List.{flat_map, list_all}
 use Rattle.fs_ident.specs.Ident.{child}
+use Rattle.fs_ident.specs.declared.actor.Peer.{Peer}
 use Rattle.fs_ident.specs.In.{In}
 use Rattle.fs_ident.specs.declared.actor.PathNo.{PathNo}
 use Rattle.fs_ident.specs.declared.actor.Session.{Session}
@@ -15,22 +16,27 @@ use Rattle.fs_field.specs.Field.{file_of}
 use Rattle.fs_field.specs.declared.effect.Effect.{Effect}
 use Rattle.fs_field.specs.declared.path.PathAnswer.TheVariants as found
 use Rattle.fs_field.specs.declared.used.Part.{Part}
+use Rattle.fs_field.specs.declared.vote.Vote.TheVariants.{PathsOut}
 use Rattle.fs_msg.specs.declared.answer.Answer.TheVariants as answer
 use Rattle.fs_msg.specs.declared.answer.Grant.{Grant}
 use Rattle.fs_msg.specs.declared.end.End.{End}
 use Rattle.fs_msg.specs.declared.end.End.TheVariants as end
 use Rattle.fs_msg.specs.declared.lead.Lead.{Lead}
+use Rattle.fs_msg.specs.declared.msg.Msg.{Msg}
 use Rattle.fs_msg.specs.declared.peer_msg.PeerMsg.TheVariants as peer
-use Rattle.fs_path.specs.Leases.{PathLease}
-use Rattle.fs_path.specs.Tables.{frozen_for}
+use Rattle.fs_msg.specs.declared.prepare.Prepare.{Prepare}
+use Rattle.fs_path.specs.Leases.{PathLease, goes_over}
+use Rattle.fs_path.specs.Returns.{recalls}
+use Rattle.fs_path.specs.Tables.{frozen_for, through}
 use Rattle.fs_record.specs.Applied.{records_after_all}
 use Rattle.fs_txn.specs.Votes.{Votes}
 use Rattle.fs_txn.specs.declared.decision.Decision.{Decision}
 use Rattle.fs_txn.specs.declared.decision.Decision.TheVariants.{Commit, Abort}
+use Rattle.fs_txn.specs.declared.mode.Mode2.{Mode2}
 use Rattle.fs_server.specs.Asks.{Asking, answer_to, kind_for}
 use Rattle.fs_server.specs.Begins.{leader_with, parts_in, txn_of}
 use Rattle.fs_server.specs.Concludes.{admitted_of, end_note, end_of_decision}
-use Rattle.fs_server.specs.Follows.{to_server, vote_here}
+use Rattle.fs_server.specs.Follows.{path_recalls, paths_freed, recalls_for, to_server, vote_here}
 use Rattle.fs_server.specs.PathSteps.{has_child, is_asking, path_here, path_number, with_path}
 use Rattle.fs_server.specs.Server.{Stepped, is_mine, moved, to_session}
 use Rattle.fs_server.specs.declared.state.Server.{Server}
@@ -82,24 +88,45 @@ abbrev pub has_all : Server → List Part → Bool
 has_all s parts = list_all (λ (p : Part). is_mine s p.file) parts
 
 -- the votes of this server on all parts
-abbrev pub votes_here : Session → Lead → Server → Votes
-votes_here by m s = map (λ (p : Part). Some (vote_here s by p)) (parts_in m)
+abbrev pub votes_here : Mode2 → Session → Lead → Server → Votes
+votes_here mode by m s = map (λ (p : Part). Some (vote_here s by p)) (parts_in mode m)
+
+-- the path leases that are in the way of parts are asked back, of one part after the other
+abbrev pub recalls_here : Mode2 → Session → Lead → Server → List (Peer × Msg)
+recalls_here mode by m s = flat_map (λ (p : Part). recalls_for (vote_here s by p) s p) (parts_in mode m)
 
 -- the effects of all parts, in their order
 abbrev pub all_effects : Decision → List Effect
 all_effects (Commit r effects) = flat_map (λ (es : List Effect). es) effects
 all_effects (Abort e) = []
 
--- the transaction ends as the leader decides, and all its parts are here
-abbrev pub concluded : Decision → Session → Lead → Server → Stepped
-concluded d by m s = record {
-  server = record s { txns = s.txns + 1; records = records_after_all s.records (all_effects d) };
+-- the transaction ends as the leader decides, all its parts are here, and it keeps no file any more
+abbrev pub concluded : Decision → Mode2 → Session → Lead → Server → Stepped
+concluded d mode by m s = record {
+  server = record s {
+    txns = s.txns + 1;
+    records = records_after_all s.records (all_effects d);
+    paths = paths_freed (txn_of s) s.paths;
+  };
   out = record {
     note = end_note (txn_of s) (end_of_decision d);
-    send = to_session by (answer.Led (end_of_decision d)) ∷ [];
-    admitted = admitted_of d (leader_with (txn_of s) by m (votes_here by m s));
+    send = recalls_here mode by m s ++ to_session by (answer.Led (end_of_decision d)) ∷ [];
+    admitted = admitted_of d (leader_with mode (txn_of s) by m (votes_here mode by m s));
   };
 }
+
+-- ## A part over whose file paths go
+
+-- paths that were given out go over the file that the part names: the vote names the least of their leases, and behind it all of them are
+-- asked back, in order; the server is as it was
+pub record AreAskedBack (from : ℕ) (m : Prepare) (number : PathNo) (s : Server) (after : Stepped) : Type 0 where
+  pub file : List ℕ
+  pub named : m.part.freeze ≡ Some file
+  pub least : through file s.paths.issued ≡ Some number
+  pub sent : after.out.send
+      ≡ to_server from (peer.Vote (record { txn = m.txn; number = m.number; vote = PathsOut number }))
+      ∷ path_recalls (recalls (goes_over file) s.paths.issued)
+  pub rest : after.server ≡ s
 
 -- ## A path that is given out
 

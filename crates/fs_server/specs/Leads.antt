@@ -22,6 +22,8 @@ use Rattle.fs_record.specs.declared.led_end.Why.{Why}
 use Rattle.fs_record.specs.declared.led_end.Why.TheVariants as why
 pub use Rattle.fs_txn.specs.Deciding.{reply_of}
 pub use Rattle.fs_server.specs.Begins.{parts_in, txn_of}
+use Rattle.fs_txn.specs.declared.mode.Mode2.{Mode2}
+use Rattle.fs_txn.specs.declared.mode.Mode2.TheVariants.{Plain, Freeze}
 use Rattle.fs_server.specs.Begins.{begins}
 use Rattle.fs_server.specs.Server.{Stepped, is_mine, strange, to_session}
 use Rattle.fs_server.specs.declared.state.Server.{Server}
@@ -45,21 +47,19 @@ abbrev pub moved_why : Option (List ℕ × ℕ) → Why
 moved_why None = why.Moved [] 0
 moved_why (Some e) = why.Moved e.0 e.1
 
--- where its file is a directory the operation changes paths: it goes, or comes into another one, which has its record here
-abbrev pub changes_paths : Server → Op → Bool
-changes_paths s (op.Delete dir name) = true
-changes_paths s (op.Rename sdir sname ddir dname) = not (same sdir ddir) && is_some (get s.records ddir)
-changes_paths s o = false
+-- where its file is a directory the operation stands on a path: that of another directory, which has its record here, into which it comes
+abbrev pub stands_on_path : Server → Op → Bool
+stands_on_path s (op.Rename sdir sname ddir dname) = not (same sdir ddir) && is_some (get s.records ddir)
+stands_on_path s o = false
 
--- paths may go over the file
-abbrev pub is_over_paths : Server → Op → Kind → Bool
-is_over_paths s o File = false
-is_over_paths s o Dir = changes_paths s o
+abbrev pub wants_path : Server → Op → Kind → Bool
+wants_path s o File = false
+wants_path s o Dir = stands_on_path s o
 
--- its home is with another server; or paths go over the file, and no path is given out yet
+-- its home is with another server; or it stands on a path, and no path is asked for yet
 abbrev pub lead_refusal : Server → Lead → Option Why
 lead_refusal s m =
-    if is_mine s (home_of m.op) then (if is_over_paths s m.op m.kind then Some (why.Wanted (home_of m.op)) else None)
+    if is_mine s (home_of m.op) then (if wants_path s m.op m.kind then Some (why.Wanted (home_of m.op)) else None)
     else Some (moved_why (longest s.map (home_of m.op)))
 
 -- nothing is admitted and nothing changes
@@ -79,8 +79,13 @@ refuses by w s = record {
 abbrev pub led_item : Session → Lead → Item
 led_item by m = record { by = Client by; n = m.n; op = m.op; reply = reply_of m.op }
 
+-- a directory that goes is kept where it is until all is decided
+abbrev pub mode_of : Op → Kind → Mode2
+mode_of (op.Delete dir name) Dir = Freeze
+mode_of o kind = Plain
+
 abbrev pub leads_unless : Option Why → Session → Lead → Server → Stepped
-leads_unless None by m s = begins by m s
+leads_unless None by m s = begins (mode_of m.op m.kind) by m s
 leads_unless (Some w) by m s = refuses by w s
 
 -- the session asks the server to lead an operation

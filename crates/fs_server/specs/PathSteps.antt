@@ -26,6 +26,7 @@ use Rattle.fs_model.specs.Step.{children_of}
 use Rattle.fs_record.specs.Records.{RecordMap, node_of}
 use Rattle.fs_record.specs.declared.led_end.Why.{Why}
 use Rattle.fs_record.specs.declared.led_end.Why.TheVariants as why
+pub use Rattle.fs_server.specs.Follows.{path_recalls}
 use Rattle.fs_server.specs.Follows.{to_server}
 use Rattle.fs_server.specs.Leads.{moved_why}
 use Rattle.fs_server.specs.Server.{Stepped, is_mine, strange}
@@ -156,10 +157,7 @@ path_no_step file w s = fails_path file w s
 
 -- ## A path is asked back
 
--- each of the leases is asked back from its server, or goes back to it
-abbrev pub path_recalls : List (ℕ × PathNo) → List (Peer × Msg)
-path_recalls leases = map (λ (x : ℕ × PathNo). to_server x.0 (peer.PathRecall x.1)) leases
-
+-- each of the leases goes back to its server
 abbrev pub path_releases : List (ℕ × PathNo) → List (Peer × Msg)
 path_releases leases = map (λ (x : ℕ × PathNo). to_server x.0 (peer.PathRelease x.1)) leases
 

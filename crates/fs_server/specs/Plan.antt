@@ -1,5 +1,5 @@
 -- What an event changes, once it is read what it comes to.
-use Rattle.std.specs.Prelude.{◌≡◌, ℕ, ◌+◌, ◌<◌, ◌≤◌, ◌^◌, true, List, length, Option, Some, None, IfSome, if◌then◌else◌}
+use Rattle.std.specs.Prelude.{◌≡◌, ℕ, ◌+◌, ◌<◌, ◌≤◌, ◌^◌, true, List, [], ◌∷◌, length, Option, Some, None, IfSome, if◌then◌else◌}
 use Rattle.std.specs.List.{list_all}
 use Rattle.std.specs.FinMap.{get}
 use Rattle.fs_ident.specs.declared.limits.TheConstants.{LATEST}
@@ -30,7 +30,8 @@ use Rattle.fs_txn.specs.Preparing.{rows_locked}
 use Rattle.fs_txn.specs.Ready.{rows_left_by, without_prepared}
 use Rattle.fs_txn.specs.declared.leading.Ending.{Ending}
 use Rattle.fs_server.specs.Counts.{done_with}
-use Rattle.fs_server.specs.Follows.{with_part}
+use Rattle.fs_server.specs.Follows.{paths_freed, paths_left_by, with_part}
+use Rattle.fs_path.specs.Tables.{with_all_frozen}
 use Rattle.fs_server.specs.Moves.{installed}
 use Rattle.fs_server.specs.Pairs.{renewed_rows, released_rows}
 use Rattle.fs_server.specs.PathSteps.{lease_to, with_asking, with_held_path, with_path, without_asking, without_paths_in}
@@ -52,6 +53,7 @@ changed_then (Ends effects removals x keeps) txn s = record s {
   rows = if keeps then s.rows else rows_unlocked txn s.rows;
   leading = without_leading txn s.leading;
   ending = with_ending x s.ending;
+  paths = paths_freed txn s.paths;
 }
 
 abbrev pub done_change : Option Ending → ℕ → Server → Server
@@ -76,14 +78,18 @@ changed (Renew until numbers) s = record s { rows = renewed_rows until numbers s
 changed (Free numbers) s = record s { rows = released_rows numbers s.rows }
 changed (Admit effects) s = record s { records = records_after_all s.records effects }
 changed (Reap count effects) s = record s { reaps = s.reaps + count; records = records_after_all s.records effects }
-changed (Lead begins txn uses rest) s =
-    changed_then rest txn (record s { txns = if begins then s.txns + 1 else s.txns; rows = rows_locked txn uses s.rows })
+changed (Lead begins txn uses files rest) s = changed_then rest txn (record s {
+  txns = if begins then s.txns + 1 else s.txns;
+  rows = rows_locked txn uses s.rows;
+  paths = record s.paths { frozen = with_all_frozen txn files s.paths.frozen };
+})
 changed (Done txn number) s = done_change (ending_of txn s.ending) number s
 changed (Prepare x) s = with_part x s
 changed (Decide txn number effects removals) s = record s {
   records = records_after_all (records_after_all s.records effects) removals;
   rows = rows_left_by txn (without_prepared txn number s.prepared) s.rows;
   prepared = without_prepared txn number s.prepared;
+  paths = paths_left_by txn (without_prepared txn number s.prepared) s.paths;
 }
 changed (Leave to piece moved) s = record s {
   records = records_left piece.prefix piece.given s.records;
@@ -129,7 +135,7 @@ abbrev pub CanChange : Change → Server → Type 0
 CanChange (Grant rows gift) s = IsNewGift gift s.records
 CanChange (Admit effects) s = list_all is_undoable effects ≡ true
 CanChange (Reap count effects) s = list_all is_undoable effects ≡ true
-CanChange (Lead begins txn uses rest) s = CanEnd rest
+CanChange (Lead begins txn uses files rest) s = CanEnd rest
 CanChange (Decide txn number effects removals) s = (list_all is_undoable effects ≡ true) × (list_all takes_away removals ≡ true)
 CanChange (Leave to piece moved) s = IsPiece piece.prefix piece.given × (moved ≡ records_given piece.prefix piece.given s.records)
 CanChange (Install p) s = (fits s.records s.rows s.map s.me p ≡ true) × AreNumbersLeft p.records

@@ -11,39 +11,42 @@ ghost use Rattle.fs_txn.specs.Numbers.{next_txn};
 
 use crate::at_reading::AtReading;
 use crate::concludes::goes_on;
-use crate::counts::{ask_for, uses_kept};
+use crate::counts::{add_recalls, ask_for, files_kept, uses_kept};
 use crate::decide::Decided;
 use crate::follows::vote_on;
 use fs_field::{Part, Use, Vote};
-use fs_ident::{List, Memory, Peer, Session, TxnNo, copy_two};
+use fs_ident::{FileId, List, Memory, Peer, Session, TxnNo, copy_two};
 use fs_msg::{CoreError, Counter, Lead, Msg, ServerNote};
 use fs_txn::{Leader, Leading, Mode2, next_txn, parts};
 use std::alloc::Global;
 
-/// What became of the first parts: their votes, whom they were asked of, the leases of those that said Yes here, and what is sent.
+/// What became of the first parts: their votes, whom they were asked of, the leases of those that said Yes here, the files that those keep, and
+/// what is sent.
 #[derive(Drop)]
 pub(crate) struct Gathered {
     pub(crate) votes: List<Option<Vote>>,
     pub(crate) at: List<u8>,
     pub(crate) uses: List<Use>,
+    pub(crate) files: List<FileId>,
     pub(crate) send: List<(Peer, Msg)>,
 }
 
-/// A transaction begins. `Spent` where it would have a number above u64::MAX.
+/// A transaction begins, in this mode. `Spent` where it would have a number above u64::MAX.
 pub(crate) fn begin(
     alloc: Global,
     at: &AtReading<'_>,
+    mode: Mode2,
     by: Session,
     m: &Lead,
 ) -> Result<Decided, CoreError>
     requires ready { IsReady at.now }
-    ensures step { IfOk result (λ d. stepped_by d at.now ≡ begins by m.now at.now) }
+    ensures step { IfOk result (λ d. stepped_by d at.now ≡ begins mode by m.now at.now) }
     ensures can { IfOk result (λ d. CanDecide d at.now) }
     ensures spent { (counter : TheCounter) → IsErrOf result (errors.Spent counter) →
-        counter_over (begins by m.now at.now).server ≡ Some counter }
+        counter_over (begins mode by m.now at.now).server ≡ Some counter }
 {
     match next_txn(at.me(), at.txns()) {
-        Some(txn) => Ok(prepares(alloc, at, by, m, txn)?),
+        Some(txn) => Ok(prepares(alloc, at, mode, by, m, txn)?),
         None => Err(CoreError::Spent {
             counter: Counter::Transactions,
         }),
@@ -54,24 +57,26 @@ pub(crate) fn begin(
 fn prepares(
     alloc: Global,
     at: &AtReading<'_>,
+    mode: Mode2,
     by: Session,
     m: &Lead,
     txn: TxnNo,
 ) -> Result<Decided, Memory>
     requires ready { IsReady at.now }
     requires txn { next_txn at.now.me at.now.txns ≡ Some txn }
-    ensures step { IfOk result (λ d. stepped_by d at.now ≡ begins by m.now at.now) }
+    ensures step { IfOk result (λ d. stepped_by d at.now ≡ begins mode by m.now at.now) }
     ensures can { IfOk result (λ d. CanDecide d at.now) }
 {
-    let parts = parts(alloc, &m.op, &m.file, &m.uses, Mode2::Plain)?;
+    let parts = parts(alloc, &m.op, &m.file, &m.uses, mode)?;
     let gathered = gather(alloc, at, txn, by, parts.as_slice())?;
     let Gathered {
         votes,
         at: servers,
         uses,
+        files,
         send,
     } = gathered;
-    let leader = leader_with(alloc, txn, by, m, parts, votes)?;
+    let leader = leader_with(alloc, mode, txn, by, m, parts, votes)?;
     let leading = Leading {
         leader,
         at: servers,
@@ -83,6 +88,7 @@ fn prepares(
         ServerNote::Prepares { txn },
         leading,
         uses,
+        files,
         send,
     )
 }
@@ -90,14 +96,15 @@ fn prepares(
 /// The leader of the transaction, with the votes of the parts that are here.
 fn leader_with(
     alloc: Global,
+    mode: Mode2,
     txn: TxnNo,
     by: Session,
     m: &Lead,
     parts: List<Part>,
     votes: List<Option<Vote>>,
 ) -> Result<Leader, Memory>
-    requires { parts ≡ parts_in m.now }
-    ensures { IfOk result (λ l. l ≡ leader_with txn by m.now votes) }
+    requires { parts ≡ parts_in mode m.now }
+    ensures { IfOk result (λ l. l ≡ leader_with mode txn by m.now votes) }
 {
     let (op, file) = copy_two(alloc, &m.op, &m.file)?;
     Ok(Leader {
@@ -107,7 +114,7 @@ fn leader_with(
         op,
         file,
         parts,
-        mode: Mode2::Plain,
+        mode,
         votes,
     })
 }
@@ -128,6 +135,7 @@ fn gather(
         votes: List::new(alloc),
         at: List::new(alloc),
         uses: List::new(alloc),
+        files: List::new(alloc),
         send: List::new(alloc),
     };
     for (i, part) in parts.iter().enumerate() {
@@ -152,6 +160,8 @@ fn gather_part(
     if at.is_mine(&part.file) {
         let vote = vote_on(alloc, at, by, part)?;
         uses_kept(alloc, part, &vote, &mut gathered.uses)?;
+        files_kept(alloc, part, &vote, &mut gathered.files)?;
+        add_recalls(alloc, at, part, &vote, &mut gathered.send)?;
         gathered.votes.push(Some(vote))?;
         gathered.at.push(at.me())
     } else {

@@ -34,11 +34,13 @@ pub(crate) enum Change {
         count: u64,
         effects: List<Effect>,
     },
-    /// A transaction of its own goes on; `begins`: it is a new one. It keeps the rows of these leases, those of parts that said Yes here just now.
+    /// A transaction of its own goes on; `begins`: it is a new one. It keeps the rows of these leases, and these files: those of parts that
+    /// said Yes here just now.
     Lead {
         begins: bool,
         txn: TxnNo,
         uses: List<Use>,
+        files: List<FileId>,
         then: Then,
     },
     /// The part of this number, of a transaction of its own, is done.
@@ -115,13 +117,15 @@ impl Twin for Change {
                 begins,
                 txn,
                 uses,
+                files,
                 then,
             } => {
-                let (uses, then) = copy_two(alloc, uses, then)?;
+                let (uses, files, then) = copy_three(alloc, uses, files, then)?;
                 Ok(Change::Lead {
                     begins: *begins,
                     txn: *txn,
                     uses,
+                    files,
                     then,
                 })
             }

@@ -1,22 +1,25 @@
 //! What an event changes is carried out: all of it, or nothing.
-ghost use Rattle.std.specs.Prelude.{◌≡◌, ◌+◌, ◌<◌, ◌^◌, ◌++◌, [], ◌∷◌, length, true, option_map, IfOk, OnOk, OnErr};
+ghost use Rattle.std.specs.Prelude.{◌≡◌, ◌+◌, ◌<◌, ◌^◌, ◌++◌, [], ◌∷◌, length, true, option_map, vec_capacity, vec_len, if◌then◌else◌, IfOk, OnOk, OnErr};
 ghost use Rattle.std.specs.List.{filter, list_all};
 ghost use Rattle.fs_field.specs.Table.{is_live};
 ghost use Rattle.fs_map.specs.Lists.{map_after_take};
 ghost use Rattle.fs_map.specs.Map.{IsPiece};
 ghost use Rattle.fs_parcel.specs.Parcel.{fits};
+ghost use Rattle.fs_path.specs.Tables.{with_all_frozen};
 ghost use Rattle.fs_record.specs.Applied.{is_undoable, records_after_all, takes_away};
 ghost use Rattle.fs_record.specs.Moving.{AreNumbersLeft, records_given, records_left, with_records};
 ghost use Rattle.fs_rows.specs.Granted.{with_rows};
 ghost use Rattle.fs_rows.specs.Moving.{rows_left};
 ghost use Rattle.fs_server.specs.Pairs.{released_rows, renewed_rows};
 ghost use Rattle.fs_server.specs.Counts.{done_with};
+ghost use Rattle.fs_server.specs.Follows.{paths_freed, paths_kept, paths_left_by};
 ghost use Rattle.fs_server.specs.Gathered.{begun_at, keeping};
 ghost use Rattle.fs_server.specs.Plan.{AreRows, CanChange, CanEnd, IsNewGift, after_gift, changed};
 ghost use Rattle.fs_server.specs.declared.change.Change.TheVariants as change;
 ghost use Rattle.fs_server.specs.Grants.{IsReady};
 ghost use Rattle.fs_server.specs.Server.{begun};
-ghost use Rattle.fs_txn.specs.Leading.{ending_of, with_ending, without_done};
+ghost use Rattle.fs_txn.specs.Leading.{ending_of, with_ending, with_leading, without_done, without_leading};
+ghost use Rattle.fs_txn.specs.Locks.{rows_unlocked};
 ghost use Rattle.fs_txn.specs.Preparing.{rows_locked};
 ghost use Rattle.fs_txn.specs.Ready.{rows_left_by, without_prepared};
 
@@ -24,13 +27,14 @@ use crate::all_rows::AllRows;
 use crate::change::{Change, Then};
 use crate::path_changes::change_paths;
 use crate::state::Server;
-use fs_field::{Effect, Row, Use};
-use fs_ident::{FileId, LeaseNo, List, Memory, Twin, TxnNo, add_copy};
+use fs_field::{Effect, Part, Row, Use};
+use fs_ident::{FileId, LeaseNo, List, Memory, Twin, TxnNo};
 use fs_map::MapPiece;
+use fs_path::Paths;
 use fs_record::{Parcel, Record, Records};
 use fs_txn::{
-    Ending, Ready, drop_leading, drop_prepared, find_ending, is_awaited, keep_ending, put_ending,
-    put_leading,
+    Ending, Leading, Ready, drop_leading, drop_prepared, find_ending, is_awaited, keep_ending,
+    put_ending, put_leading,
 };
 use std::alloc::Global;
 
@@ -71,8 +75,12 @@ pub(crate) fn commit(
             begins,
             txn,
             uses,
+            files,
             then,
-        } => return lead(alloc, server, reading, begins, txn, uses.as_slice(), then),
+        } => {
+            let (uses, files) = (uses.as_slice(), files.as_slice());
+            return lead(alloc, server, reading, begins, txn, uses, files, then);
+        }
         Change::Done { txn, number } => return done(alloc, server, reading, txn, number),
         Change::Prepare { ready } => prepare(alloc, server, reading, &ready)?,
         Change::Decide {
@@ -128,7 +136,7 @@ fn give_number(records: &mut Records, gift: Option<(FileId, u32)>)
     }
 }
 
-/// A transaction goes on, and keeps the rows of these leases; where it begins, its number is used up.
+/// A transaction goes on, and keeps the rows of these leases and these files; where it begins, its number is used up.
 fn lead(
     alloc: Global,
     server: &mut Server,
@@ -136,18 +144,21 @@ fn lead(
     begins: bool,
     txn: TxnNo,
     uses: &[Use],
-    then: Then,
+    files: &[FileId],
+    rest: Then,
 ) -> Result<(), Memory>
-    requires can { CanEnd then }
+    requires can { CanEnd rest }
     requires few { begins ≡ true → server.old.txns + 1 < 2 ^ 64 }
     ensures ok { OnOk result (server.new ≡
-        changed (change.Lead begins txn uses.now then) (begun_at reading server.old)) }
+        changed (change.Lead begins txn uses.now files.now rest) (begun_at reading server.old)) }
     ensures err { OnErr result (server.new ≡ server.old) }
 {
-    match then {
+    match rest {
         Then::Waits { leading } => {
-            put_leading(server.leading.items_mut(), leading)?;
+            let waiting = server.leading.items_mut();
+            wait(alloc, waiting, &mut server.paths, txn, files, leading)?;
             keep(server, reading, begins, txn, uses);
+            Ok(())
         }
         Then::Ends {
             effects,
@@ -164,14 +175,48 @@ fn lead(
                 gone,
                 ending,
             )?;
-            drop_leading(server.leading.items_mut(), txn);
             keep(server, reading, begins, txn, uses);
-            if !keeps {
-                server.rows.unlock(txn);
-            }
+            free(server, txn, keeps);
+            Ok(())
         }
     }
+}
+
+/// Votes on it are awaited, and it keeps these files.
+fn wait(
+    alloc: Global,
+    leading: &mut Vec<Leading>,
+    paths: &mut Paths,
+    txn: TxnNo,
+    files: &[FileId],
+    l: Leading,
+) -> Result<(), Memory>
+    ensures leading { OnOk result (leading.new.items ≡ with_leading l leading.old.items) }
+    ensures paths { OnOk result (paths.new ≡
+        record paths.old { frozen = with_all_frozen txn files.now paths.old.frozen }) }
+    ensures err_leading { OnErr result (leading.new.items ≡ leading.old.items) }
+    ensures err_paths { OnErr result (paths.new ≡ paths.old) }
+{
+    leading.reserve(1)?;
+    paths.freeze_all(alloc, files, txn)?;
+    put_leading(leading, l);
     Ok(())
+}
+
+/// No vote on it is awaited any more. It keeps no file, those of parts that said Yes just now not even put there, and no row unless it
+/// keeps its rows.
+fn free(server: &mut Server, txn: TxnNo, keeps: bool)
+    ensures { server.new ≡ record server.old {
+      rows = if keeps then server.old.rows else rows_unlocked txn server.old.rows;
+      leading = without_leading txn server.old.leading;
+      paths = paths_freed txn server.old.paths;
+    } }
+{
+    drop_leading(server.leading.items_mut(), txn);
+    server.paths.thaw(txn);
+    if !keeps {
+        server.rows.unlock(txn);
+    }
 }
 
 /// Its effects are applied, and it is kept where others have to tell that all is done.
@@ -201,7 +246,7 @@ fn end(
 /// The rows of these leases are locked.
 fn keep(server: &mut Server, reading: u64, begins: bool, txn: TxnNo, uses: &[Use])
     requires { begins ≡ true → server.old.txns + 1 < 2 ^ 64 }
-    ensures { server.new ≡ keeping begins txn uses.now (begun_at reading server.old) }
+    ensures { server.new ≡ keeping begins txn uses.now [] (begun_at reading server.old) }
 {
     server.rows.lapse(reading, server.skew);
     lock_all(&mut server.rows, txn, uses);
@@ -267,19 +312,63 @@ fn finish(server: &mut Server, reading: u64, x: Ending) -> Result<(), Memory>
     Ok(())
 }
 
-/// The part waits for its decision, and its rows are locked.
+/// The part waits for its decision, its rows are locked, and its file is kept.
 fn prepare(alloc: Global, server: &mut Server, reading: u64, ready: &Ready) -> Result<(), Memory>
     ensures ok { OnOk result (server.new ≡ record server.old {
       rows = rows_locked ready.now.txn ready.now.part.uses
           (filter (is_live reading server.old.skew) server.old.rows);
       prepared = server.old.prepared ++ ready.now ∷ [];
+      paths = paths_kept ready.now.txn ready.now.part.freeze server.old.paths;
     }) }
     ensures err { OnErr result (server.new ≡ server.old) }
 {
-    add_copy(alloc, &mut server.prepared, ready)?;
+    let prepared = server.prepared.items_mut();
+    put_ready(alloc, prepared, &mut server.paths, ready)?;
     server.rows.lapse(reading, server.skew);
     lock_all(&mut server.rows, ready.txn, ready.part.uses.as_slice());
     Ok(())
+}
+
+/// The part waits behind the others, and its file is kept.
+fn put_ready(
+    alloc: Global,
+    prepared: &mut Vec<Ready>,
+    paths: &mut Paths,
+    ready: &Ready,
+) -> Result<(), Memory>
+    ensures prepared { OnOk result (prepared.new.items ≡ prepared.old.items ++ ready.now ∷ []) }
+    ensures paths { OnOk result (paths.new ≡
+        paths_kept ready.now.txn ready.now.part.freeze paths.old) }
+    ensures err_prepared { OnErr result (prepared.new.items ≡ prepared.old.items) }
+    ensures err_paths { OnErr result (paths.new ≡ paths.old) }
+{
+    let ready = ready.copy(alloc)?;
+    prepared.reserve(1)?;
+    keep_file(alloc, paths, ready.txn, &ready.part)?;
+    put_within(prepared, ready);
+    Ok(())
+}
+
+/// The transaction keeps the file that the part names, if there is one.
+fn keep_file(alloc: Global, paths: &mut Paths, txn: TxnNo, part: &Part) -> Result<(), Memory>
+    ensures ok { OnOk result (paths.new ≡ paths_kept txn part.now.freeze paths.old) }
+    ensures err { OnErr result (paths.new ≡ paths.old) }
+{
+    match &part.freeze {
+        Some(file) => paths.freeze(alloc, file, txn),
+        None => Ok(()),
+    }
+}
+
+/// Puts the part behind the others, where there is room for it.
+fn put_within(prepared: &mut Vec<Ready>, ready: Ready)
+    requires { vec_len prepared.old < vec_capacity prepared.old }
+    ensures { prepared.new.items ≡ prepared.old.items ++ ready ∷ [] }
+{
+    match prepared.push(ready) {
+        Ok(()) => {}
+        Err(_) => unreachable!(),
+    }
 }
 
 /// The transaction keeps the rows of these leases, but for those that another one keeps.
@@ -308,6 +397,8 @@ fn decide(
       rows = rows_left_by txn (without_prepared txn number server.old.prepared)
           (filter (is_live reading server.old.skew) server.old.rows);
       prepared = without_prepared txn number server.old.prepared;
+      paths = paths_left_by txn (without_prepared txn number server.old.prepared)
+          server.old.paths;
     }) }
     ensures err { OnErr result (server.new ≡ server.old) }
 {
@@ -315,16 +406,19 @@ fn decide(
     take_all_away(&mut server.records, gone);
     server.rows.lapse(reading, server.skew);
     drop_prepared(&mut server.prepared, txn, number);
-    unlock_last(&mut server.rows, txn, server.prepared.as_slice());
+    let left = server.prepared.as_slice();
+    free_last(&mut server.rows, &mut server.paths, txn, left);
     Ok(())
 }
 
-/// Where these parts are left, the transaction's rows are unlocked with its last one.
-fn unlock_last(rows: &mut AllRows, txn: TxnNo, left: &[Ready])
-    ensures { rows.new ≡ rows_left_by txn left.now rows.old }
+/// Where these parts are left, the transaction's rows are unlocked with its last one, and it keeps no file any more.
+fn free_last(rows: &mut AllRows, paths: &mut Paths, txn: TxnNo, left: &[Ready])
+    ensures rows { rows.new ≡ rows_left_by txn left.now rows.old }
+    ensures paths { paths.new ≡ paths_left_by txn left.now paths.old }
 {
     if !is_awaited(left, txn) {
         rows.unlock(txn);
+        paths.thaw(txn);
     }
 }
 

@@ -20,13 +20,14 @@ use crate::follows::to_server;
 use crate::leads::led_told;
 use crate::out::ServerOut;
 use fs_field::{Effect, Use};
-use fs_ident::{List, Memory, Peer, Twin, TxnNo, add_copy, copy_two};
+use fs_ident::{FileId, List, Memory, Peer, Twin, TxnNo, add_copy, copy_two};
 use fs_msg::{Decide, Item, Msg, PeerMsg, ServerNote};
 use fs_record::{LedEnd, is_undoable};
 use fs_txn::{Decision, Ending, Leader, Leading, elsewhere, own_effects};
 use std::alloc::Global;
 
-/// It is decided where all parts have voted. Where it begins a number of a transaction is used up; it keeps the rows of these leases.
+/// It is decided where all parts have voted. Where it begins a number of a transaction is used up; it keeps the rows of these leases, and
+/// these files.
 pub(crate) fn goes_on(
     alloc: Global,
     at: &AtReading<'_>,
@@ -34,18 +35,19 @@ pub(crate) fn goes_on(
     note: ServerNote,
     leading: Leading,
     uses: List<Use>,
+    files: List<FileId>,
     send: List<(Peer, Msg)>,
 ) -> Result<Decided, Memory>
     requires ready { IsReady at.now }
     requires can { CanGoOn begins leading at.now }
     ensures step { IfOk result (λ d. stepped_by d at.now ≡
-        goes_on note leading send (keeping begins leading.leader.txn uses at.now)) }
+        goes_on note leading send (keeping begins leading.leader.txn uses files at.now)) }
     ensures can { IfOk result (λ d. CanDecide d at.now) }
 {
     if leading.leader.is_full() {
-        concludes(alloc, at, begins, leading, uses, send)
+        concludes(alloc, at, begins, leading, uses, files, send)
     } else {
-        Ok(waits(alloc, begins, note, leading, uses, send))
+        Ok(waits(alloc, begins, note, leading, uses, files, send))
     }
 }
 
@@ -56,15 +58,17 @@ pub(crate) fn waits(
     note: ServerNote,
     leading: Leading,
     uses: List<Use>,
+    files: List<FileId>,
     send: List<(Peer, Msg)>,
 ) -> Decided
-    ensures { result ≡ waits_by begins note leading uses send }
+    ensures { result ≡ waits_by begins note leading uses files send }
 {
     Decided {
         change: Change::Lead {
             begins,
             txn: leading.leader.txn,
             uses,
+            files,
             then: Then::Waits { leading },
         },
         out: ServerOut {
@@ -75,26 +79,29 @@ pub(crate) fn waits(
     }
 }
 
-/// All parts have voted. There are no paths yet, so none counts.
+/// All parts have voted. Where it would stand on a path it was not begun, so none counts.
 fn concludes(
     alloc: Global,
     at: &AtReading<'_>,
     begins: bool,
     leading: Leading,
     uses: List<Use>,
+    files: List<FileId>,
     send: List<(Peer, Msg)>,
 ) -> Result<Decided, Memory>
     requires ready { IsReady at.now }
     requires can { CanGoOn begins leading at.now }
     requires full { is_full leading.leader.votes ≡ true }
     ensures step { IfOk result (λ d. stepped_by d at.now ≡
-        concludes leading send (keeping begins leading.leader.txn uses at.now)) }
+        concludes leading send (keeping begins leading.leader.txn uses files at.now)) }
     ensures can { IfOk result (λ d. CanDecide d at.now) }
 {
     let me = at.me();
     let decision = leading.leader.decide(alloc, None)?;
     let others = elsewhere(alloc, me, &leading)?;
-    let d = ended(alloc, me, begins, leading, uses, send, decision, others)?;
+    let d = ended(
+        alloc, me, begins, leading, uses, files, send, decision, others,
+    )?;
     Ok(d)
 }
 
@@ -105,13 +112,14 @@ fn ended(
     begins: bool,
     leading: Leading,
     uses: List<Use>,
+    files: List<FileId>,
     send: List<(Peer, Msg)>,
     decision: Decision,
     others: List<(u8, u8)>,
 ) -> Result<Decided, Memory>
     requires { length leading.leader.votes < 2 ^ 8 }
     ensures { IfOk result (λ d. d ≡ record {
-      change = change.Lead begins leading.leader.txn uses (ends_by me leading decision others);
+      change = change.Lead begins leading.leader.txn uses files (ends_by me leading decision others);
       out = told_by decision others leading.leader send;
     }) }
 {
@@ -122,6 +130,7 @@ fn ended(
             begins,
             txn: leading.leader.txn,
             uses,
+            files,
             then: rest,
         },
         out,

@@ -2,8 +2,8 @@
 ghost use Rattle.std.specs.Prelude.{◌≡◌, ◌++◌, [], ◌∷◌, true, Some, slice_get, IfOk, OnOk};
 ghost use Rattle.fs_server.specs.Counts.{ask_for, asked_at, comes_home, counts, counts_own, done_of, done_step, seeks, sent_on, vote_of, vote_step, with_vote};
 ghost use Rattle.fs_server.specs.Decided.{CanDecide, stepped_by};
-ghost use Rattle.fs_server.specs.Follows.{to_server, vote_here};
-ghost use Rattle.fs_server.specs.Gathered.{IsWhole, done_told, uses_voted};
+ghost use Rattle.fs_server.specs.Follows.{recalls_for, to_server, vote_here};
+ghost use Rattle.fs_server.specs.Gathered.{IsWhole, done_told, files_voted, uses_voted};
 ghost use Rattle.fs_server.specs.Grants.{IsReady};
 ghost use Rattle.fs_txn.specs.Leading.{ending_of, leading_of, without_done};
 ghost use Rattle.fs_txn.specs.Votes.{awaits};
@@ -15,8 +15,9 @@ use crate::decide::{Decided, only, strange};
 use crate::follows::{to_server, vote_on};
 use crate::leads::led_told;
 use crate::out::ServerOut;
+use crate::path_returns::ask_all_back;
 use fs_field::{Part, Use, Vote};
-use fs_ident::{List, Memory, Peer, Session, Twin, TxnNo, add_copy};
+use fs_ident::{FileId, List, Memory, Peer, Session, Twin, TxnNo, add_copy};
 use fs_msg::{Done, Msg, PeerMsg, Prepare, ServerNote, Voted};
 use fs_txn::{Ending, Leading, find_ending, find_leading};
 use std::alloc::Global;
@@ -67,7 +68,17 @@ fn counts(
     let leading = with_vote(alloc, l, number, vote)?;
     let note = ServerNote::Waits { txn: l.leader.txn };
     let uses = List::new(alloc);
-    goes_on(alloc, at, false, note, leading, uses, List::new(alloc))
+    let files = List::new(alloc);
+    goes_on(
+        alloc,
+        at,
+        false,
+        note,
+        leading,
+        uses,
+        files,
+        List::new(alloc),
+    )
 }
 
 /// The transaction with one vote more.
@@ -146,8 +157,12 @@ fn counts_own(
     leading.ask(number, at.me());
     let mut uses = List::new(alloc);
     uses_kept(alloc, part, &vote, &mut uses)?;
+    let mut files = List::new(alloc);
+    files_kept(alloc, part, &vote, &mut files)?;
+    let mut send = List::new(alloc);
+    add_recalls(alloc, at, part, &vote, &mut send)?;
     let note = ServerNote::Waits { txn: l.leader.txn };
-    goes_on(alloc, at, false, note, leading, uses, List::new(alloc))
+    goes_on(alloc, at, false, note, leading, uses, files, send)
 }
 
 /// The server is asked for the part.
@@ -172,7 +187,8 @@ fn seeks(
         to,
     };
     let uses = List::new(alloc);
-    Ok(waits(alloc, false, note, leading, uses, send))
+    let files = List::new(alloc);
+    Ok(waits(alloc, false, note, leading, uses, files, send))
 }
 
 /// The message to the server that is asked now.
@@ -230,6 +246,38 @@ pub(crate) fn uses_kept(
 {
     if matches!(vote, Vote::Yes) {
         add_uses(alloc, part.uses.as_slice(), uses)?;
+    }
+    Ok(())
+}
+
+/// Where it is Yes, the transaction keeps the file that the part names.
+pub(crate) fn files_kept(
+    alloc: Global,
+    part: &Part,
+    vote: &Vote,
+    files: &mut List<FileId>,
+) -> Result<(), Memory>
+    ensures { OnOk result (files.new ≡ files.old ++ files_voted vote.now part.now.freeze) }
+{
+    if let (Vote::Yes, Some(file)) = (vote, &part.freeze) {
+        add_copy(alloc, files, file)?;
+    }
+    Ok(())
+}
+
+/// Where a path is in the way of the part, all leases over the file that it names are asked back.
+pub(crate) fn add_recalls(
+    alloc: Global,
+    at: &AtReading<'_>,
+    part: &Part,
+    vote: &Vote,
+    send: &mut List<(Peer, Msg)>,
+) -> Result<(), Memory>
+    ensures { OnOk result (send.new ≡ send.old ++ recalls_for vote.now at.now part.now) }
+{
+    if let (Vote::PathsOut { .. }, Some(file)) = (vote, &part.freeze) {
+        let leases = at.paths().recall_through(alloc, file)?;
+        ask_all_back(leases.as_slice(), send)?;
     }
     Ok(())
 }

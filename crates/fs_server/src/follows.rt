@@ -1,13 +1,12 @@
 //! The parts of deletes and renames that other servers lead.
-ghost use Rattle.std.specs.Prelude.{◌≡◌, [], ◌∷◌, None, IfOk};
+ghost use Rattle.std.specs.Prelude.{◌≡◌, [], ◌∷◌, IfOk};
 ghost use Rattle.std.specs.List.{filter};
 ghost use Rattle.std.specs.Option.{option_copied};
 ghost use Rattle.fs_map.specs.Map.{longest};
 ghost use Rattle.fs_msg.specs.declared.peer_msg.PeerMsg.TheVariants as peer;
-ghost use Rattle.fs_msg.specs.declared.server_note.ServerNote.TheVariants as note;
 ghost use Rattle.fs_record.specs.Applied.{is_undoable, takes_away};
 ghost use Rattle.fs_server.specs.Decided.{CanDecide, stepped_by, voted_change};
-ghost use Rattle.fs_server.specs.Follows.{applies, decide_step, prepare_step, ready_of, to_server, vote_here, votes};
+ghost use Rattle.fs_server.specs.Follows.{applies, decide_step, path_in_the_way, prepare_step, ready_of, recalls_for, to_server, vote_here, votes};
 ghost use Rattle.fs_server.specs.Grants.{IsReady};
 ghost use Rattle.fs_server.specs.declared.change.Change.TheVariants as change;
 ghost use Rattle.fs_txn.specs.Preparing.{moved_to, vote_by};
@@ -15,11 +14,12 @@ ghost use Rattle.fs_txn.specs.Preparing.{moved_to, vote_by};
 use crate::at_reading::AtReading;
 use crate::change::Change;
 use crate::concludes::{removals, undoable};
+use crate::counts::add_recalls;
 use crate::decide::{Decided, only, strange};
 use crate::out::ServerOut;
 use crate::ships::first_gone;
 use fs_field::{Part, Use, Vote};
-use fs_ident::{FileId, List, Memory, Peer, Session, Twin, TxnNo};
+use fs_ident::{FileId, List, Memory, PathNo, Peer, Session, Twin};
 use fs_msg::{Decide, Done, Msg, PeerMsg, Prepare, ServerNote, Voted};
 use fs_txn::{Ready, is_prepared};
 use std::alloc::Global;
@@ -42,7 +42,7 @@ pub(crate) fn prepare(
     votes(alloc, at, from, m, vote)
 }
 
-/// The vote on the part. There are no path leases, so none goes over a file that it freezes.
+/// The vote on the part, by the rows and the path leases that stand.
 pub(crate) fn vote_on(
     alloc: Global,
     at: &AtReading<'_>,
@@ -52,23 +52,38 @@ pub(crate) fn vote_on(
     ensures { IfOk result (λ vote. vote ≡ vote_here at.now by part.now) }
 {
     if at.is_mine(&part.file) {
-        Ok(vote_by(first_gone(at, by, part.uses.as_slice()), at.reading()))
+        Ok(vote_by(
+            first_gone(at, by, part.uses.as_slice()),
+            path_in_the_way(at, &part.freeze),
+            at.reading(),
+        ))
     } else {
         moved(alloc, at, &part.file)
     }
 }
 
-/// The vote where the file is here.
-fn vote_by(gone: Option<&Use>, now: u64) -> Vote
-    ensures { result ≡ vote_by (option_copied gone.entry) None now }
+/// The least path lease given out here that goes over the file which the part keeps.
+fn path_in_the_way(at: &AtReading<'_>, freeze: &Option<FileId>) -> Option<PathNo>
+    ensures { result ≡ path_in_the_way at.now freeze.now }
 {
-    match gone {
-        Some(used) => Vote::Ended {
+    match freeze {
+        Some(file) => at.paths().through(file),
+        None => None,
+    }
+}
+
+/// The vote where the file is here.
+fn vote_by(gone: Option<&Use>, through: Option<PathNo>, now: u64) -> Vote
+    ensures { result ≡ vote_by (option_copied gone.entry) through now }
+{
+    match (gone, through) {
+        (Some(used), _) => Vote::Ended {
             lease: used.no,
             until: used.until,
             now,
         },
-        None => Vote::Yes,
+        (None, Some(no)) => Vote::PathsOut { no },
+        (None, None) => Vote::Yes,
     }
 }
 
@@ -83,7 +98,7 @@ fn moved(alloc: Global, at: &AtReading<'_>, file: &FileId) -> Result<Vote, Memor
     })
 }
 
-/// The vote is told; where it is Yes the part is ready.
+/// The vote is told; where it is Yes the part is ready, and where a path is in the way, those are asked back.
 fn votes(
     alloc: Global,
     at: &AtReading<'_>,
@@ -96,7 +111,7 @@ fn votes(
     ensures can { IfOk result (λ d. CanDecide d at.now) }
 {
     let change = change_of(alloc, m, &vote)?;
-    let out = told_vote(alloc, from, m.txn, m.number, vote)?;
+    let out = told_vote(alloc, at, from, m, vote)?;
     Ok(Decided { change, out })
 }
 
@@ -125,27 +140,55 @@ fn ready_of(alloc: Global, m: &Prepare) -> Result<Ready, Memory>
     })
 }
 
-/// The other server is told the vote.
+/// The other server is told the vote; behind it go the recalls, and nothing is admitted.
 fn told_vote(
     alloc: Global,
+    at: &AtReading<'_>,
     from: u8,
-    txn: TxnNo,
-    number: u8,
+    m: &Prepare,
     vote: Vote,
 ) -> Result<ServerOut, Memory>
-    ensures { IfOk result (λ out. out ≡ record {
-      note = note.Votes txn vote;
-      send = to_server from
-          (peer.Vote (record { txn = txn; number = number; vote = vote })) ∷ [];
-      admitted = [];
-    }) }
+    ensures { IfOk result (λ out. out ≡ (votes vote from m.now at.now).out) }
 {
-    let note = ServerNote::Votes {
-        txn,
+    let send = vote_sent(alloc, at, from, m, &vote)?;
+    let note = ServerNote::Votes { txn: m.txn, vote };
+    Ok(ServerOut {
+        note,
+        send,
+        admitted: List::new(alloc),
+    })
+}
+
+/// The vote, and behind it, where a path is in the way, that all leases over the file are asked back.
+fn vote_sent(
+    alloc: Global,
+    at: &AtReading<'_>,
+    from: u8,
+    m: &Prepare,
+    vote: &Vote,
+) -> Result<List<(Peer, Msg)>, Memory>
+    ensures { IfOk result (λ send. send ≡
+        to_server from
+        (peer.Vote (record { txn = m.now.txn; number = m.now.number; vote = vote.now })) ∷
+        recalls_for vote.now at.now m.now.part) }
+{
+    let mut send = only(alloc, vote_to(alloc, from, m, vote)?)?;
+    add_recalls(alloc, at, &m.part, vote, &mut send)?;
+    Ok(send)
+}
+
+/// The message that tells it.
+fn vote_to(alloc: Global, from: u8, m: &Prepare, vote: &Vote) -> Result<(Peer, Msg), Memory>
+    ensures { IfOk result (λ told. told ≡
+        to_server from
+        (peer.Vote (record { txn = m.now.txn; number = m.now.number; vote = vote.now }))) }
+{
+    let voted = Voted {
+        txn: m.txn,
+        number: m.number,
         vote: vote.copy(alloc)?,
     };
-    let voted = Voted { txn, number, vote };
-    only_sent(alloc, note, from, PeerMsg::Vote { voted })
+    Ok(to_server(from, PeerMsg::Vote { voted }))
 }
 
 /// One message to another server, and nothing is admitted.

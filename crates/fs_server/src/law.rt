@@ -1,17 +1,18 @@
 //! Laws of a server's steps, over the definitions alone.
 ghost use Rattle.std.specs.Prelude.{◌≡◌, ◌≤◌, ℕ, true, false, List, [], ◌∷◌, length, map, None, Some, is_some};
-ghost use Rattle.fs_field.specs.Table.{is_lease, is_lock_of};
+ghost use Rattle.fs_field.specs.Table.{is_lease, is_lock_of, same_txn};
 ghost use Rattle.fs_field.specs.declared.field.Field.{Field};
 ghost use Rattle.fs_field.specs.declared.lease_kind.LeaseKind.{LeaseKind};
 ghost use Rattle.fs_field.specs.declared.row.Row.{Row};
 ghost use Rattle.fs_field.specs.declared.used.Part.{Part};
 ghost use Rattle.fs_field.specs.declared.used.Use.{Use};
-ghost use Rattle.fs_field.specs.declared.vote.Vote.TheVariants.{Yes};
+ghost use Rattle.fs_field.specs.declared.vote.Vote.TheVariants.{PathsOut, Yes};
 ghost use Rattle.fs_ident.specs.In.{In};
 ghost use Rattle.fs_ident.specs.declared.actor.PathNo.{PathNo};
 ghost use Rattle.fs_ident.specs.declared.actor.Peer.{Peer};
 ghost use Rattle.fs_ident.specs.declared.actor.Peer.TheVariants as peer;
 ghost use Rattle.fs_ident.specs.declared.actor.Session.{Session};
+ghost use Rattle.fs_ident.specs.declared.actor.TxnNo.{TxnNo};
 ghost use Rattle.fs_map.specs.Map.{longest};
 ghost use Rattle.fs_model.specs.Asking.{home_of};
 ghost use Rattle.fs_msg.specs.declared.decide.Decide.{Decide};
@@ -29,22 +30,24 @@ ghost use Rattle.fs_parcel.specs.Parcel.{move_refusal, parcel_of};
 ghost use Rattle.fs_path.specs.Leases.{PathLease, goes_into};
 ghost use Rattle.fs_path.specs.Returns.{is_needed};
 ghost use Rattle.fs_path.specs.declared.having.Having.{Having};
-ghost use Rattle.fs_path.specs.Tables.{first_in, holds, lease_of};
+ghost use Rattle.fs_path.specs.Tables.{first_in, holds, lease_of, through};
 ghost use Rattle.fs_record.specs.Applied.{records_after_all};
 ghost use Rattle.fs_record.specs.Fresh.{is_directory};
+ghost use Rattle.fs_record.specs.declared.led_end.Why.TheVariants as why;
 ghost use Rattle.fs_record.specs.declared.led_end.Why.{Why};
 ghost use Rattle.fs_server.specs.Asks.{ask_from, asked_in};
-ghost use Rattle.fs_server.specs.Begins.{leader_with, parts_in, txn_of};
+ghost use Rattle.fs_server.specs.Begins.{begins, leader_with, parts_in, txn_of};
 ghost use Rattle.fs_server.specs.Counts.{vote_step};
-ghost use Rattle.fs_server.specs.Follows.{decide_step, prepare_step, to_server, vote_here};
-ghost use Rattle.fs_server.specs.Laws.{CanBeGiven, FreshComes, IsAskedFirst, IsGivenOut, IsSentOn, concluded, free_items, has_all, item_in, items_end, votes_here};
+ghost use Rattle.fs_server.specs.Follows.{decide_step, path_in_the_way, prepare_step, to_server, vote_here};
+ghost use Rattle.fs_server.specs.Laws.{AreAskedBack, CanBeGiven, FreshComes, IsAskedFirst, IsGivenOut, IsSentOn, concluded, free_items, has_all, item_in, items_end, votes_here};
 ghost use Rattle.fs_server.specs.LeadingLaws.{HasNextTxn};
-ghost use Rattle.fs_server.specs.Leads.{is_led, lead_refusal, lead_step, moved_why, refuses};
+ghost use Rattle.fs_server.specs.Leads.{is_led, lead_refusal, lead_step, mode_of, moved_why, refuses, wants_path};
 ghost use Rattle.fs_server.specs.Moves.{move_step, peer_step};
 ghost use Rattle.fs_server.specs.ReturnLaws.{IsAskedBack, IsGivenBack, IsReturn, KeepsFiles, StaysForPaths, is_of_paths};
 ghost use Rattle.fs_server.specs.PathSteps.{asks_up, is_asking, path_ask_step, path_grant_step, path_no_step};
 ghost use Rattle.fs_server.specs.Rows.{rows_off_modes, rows_on_modes};
 ghost use Rattle.fs_server.specs.Server.{begun, is_mine, strange};
+ghost use Rattle.fs_server.specs.Ships.{first_gone};
 ghost use Rattle.fs_server.specs.Step.{step};
 ghost use Rattle.fs_server.specs.declared.event.ServerEvent.TheVariants.{Move};
 ghost use Rattle.fs_server.specs.declared.state.Server.{Server};
@@ -53,6 +56,7 @@ ghost use Rattle.fs_txn.specs.Deciding.{decision};
 ghost use Rattle.fs_txn.specs.Preparing.{vote_on};
 ghost use Rattle.fs_txn.specs.Ready.{is_awaited, is_prepared};
 ghost use Rattle.fs_txn.specs.Stages.{is_yes};
+ghost use Rattle.fs_txn.specs.declared.mode.Mode2.{Mode2};
 
 /// The items of a question are given in order up to the first that the session could not have before it was given any: no
 /// lease that it is given keeps the next one from it.
@@ -72,11 +76,18 @@ pub fn an_identifier_comes_behind_all_items()
         FreshComes dir (free_items by s items) (asked_in by items (Some dir) s) }
 {}
 
-/// An operation whose home another server manages is not led: the session is told where it is said to be, whatever else is wanting.
+/// An operation whose home another server manages is not led: the session is told where it is said to be, whatever else is wanting. At
+/// its home it is led, a delete of a directory too, but for one that would bring a directory into another one: its path is wanted.
 pub fn operations_are_led_at_home()
-    ensures { (by : Session) (m : Lead) (s : Server) → is_led m.op ≡ true →
+    ensures elsewhere { (by : Session) (m : Lead) (s : Server) → is_led m.op ≡ true →
         is_mine s (home_of m.op) ≡ false →
         lead_step by m s ≡ refuses by (moved_why (longest s.map (home_of m.op))) s }
+    ensures wanted { (by : Session) (m : Lead) (s : Server) → is_led m.op ≡ true →
+        is_mine s (home_of m.op) ≡ true → wants_path s m.op m.kind ≡ true →
+        lead_step by m s ≡ refuses by (why.Wanted (home_of m.op)) s }
+    ensures begins { (by : Session) (m : Lead) (s : Server) → is_led m.op ≡ true →
+        is_mine s (home_of m.op) ≡ true → wants_path s m.op m.kind ≡ false →
+        lead_step by m s ≡ begins (mode_of m.op m.kind) by m s }
 {}
 
 /// Where nothing is admitted no file changes: not when a session asks the server to lead, and not when a vote comes.
@@ -87,13 +98,16 @@ pub fn what_is_not_admitted_changes_no_file()
         (vote_step m s).server.records ≡ s.records }
 {}
 
-/// Where all files of the operation are managed here, all its parts vote at once by the rows that stand, and the leader decides; but for
-/// its effects and the number of the transaction the server is as it was.
+/// Where all files of the operation are managed here, all its parts vote at once by the rows and the path leases that stand, and the leader
+/// decides; but for its effects and the number of the transaction, for which no file is kept any more, the server is as it was. Path leases in
+/// the way of a part are asked back before the session is told how it ended.
 pub fn parts_here_vote_at_once()
-    ensures { (by : Session) (m : Lead) (s : Server) → is_led m.op ≡ true →
-        lead_refusal s m ≡ None → has_all s (parts_in m) ≡ true → HasNextTxn s →
+    ensures { (by : Session) (m : Lead) (mode : Mode2) (s : Server) → is_led m.op ≡ true →
+        mode_of m.op m.kind ≡ mode → lead_refusal s m ≡ None →
+        has_all s (parts_in mode m) ≡ true → HasNextTxn s →
         lead_step by m s ≡
-        concluded (decision (leader_with (txn_of s) by m (votes_here by m s)) None) by m s }
+        concluded (decision (leader_with mode (txn_of s) by m (votes_here mode by m s)) None)
+        mode by m s }
 {}
 
 /// A move with none of the refusals is made in its own event, where no path goes over what is to go: a parcel with all that is below the
@@ -139,11 +153,13 @@ pub fn paths_change_no_file()
         KeepsFiles s (peer_step from m s).server }
 {}
 
-/// The vote on a part that another server asks for is that of the rows of both tables, where no path lease is given out.
+/// The vote on a part that another server asks for is that of the rows of both tables, and of the least path lease given out here that goes
+/// over the file which the part names.
 pub fn parts_of_others_are_voted_on()
     ensures { (s : Server) (by : Session) (p : Part) →
         vote_here s by p ≡
-        vote_on (rows_off_modes s.rows) (rows_on_modes s.rows) s.map s.me s.last by p None }
+        vote_on (rows_off_modes s.rows) (rows_on_modes s.rows) s.map s.me s.last by p
+        (path_in_the_way s p.freeze) }
 {}
 
 /// A part for which the vote is Yes waits for its decision, and for each of its leases a row of the session is locked, which is over at
@@ -156,6 +172,33 @@ pub fn a_yes_has_its_rows_locked()
         (prepare_step from m s).out.note ≡ note.Votes m.txn Yes → (u : Use) → In u m.part.uses →
         (r : Row) × In r (begun now (prepare_step from m s).server).rows ×
         (is_lease u.no m.session u.field u.kind r ≡ true) × (is_some r.lock ≡ true) }
+{}
+
+/// A part for which the vote is Yes keeps the file that it names, beside those that are kept already. Where it names none, and where the
+/// vote is not Yes, none is kept.
+pub fn a_yes_keeps_its_file()
+    ensures kept { (s : Server) (from : ℕ) (m : Prepare) (file : List ℕ) →
+        (prepare_step from m s).out.note ≡ note.Votes m.txn Yes → m.part.freeze ≡ Some file →
+        In (file, m.txn) (prepare_step from m s).server.paths.frozen }
+    ensures stays { (s : Server) (from : ℕ) (m : Prepare) (x : List ℕ × TxnNo) →
+        In x s.paths.frozen → In x (prepare_step from m s).server.paths.frozen }
+    ensures unnamed { (s : Server) (from : ℕ) (m : Prepare) → m.part.freeze ≡ None →
+        (prepare_step from m s).server.paths ≡ s.paths }
+    ensures unsaid { (s : Server) (from : ℕ) (m : Prepare) →
+        ((prepare_step from m s).out.note ≡ note.Votes m.txn Yes → ⊥) →
+        (prepare_step from m s).server.paths ≡ s.paths }
+{}
+
+/// Where a part is here and its leases have their rows, and paths that were given out go over the file that it names, the vote is that the
+/// least of their leases is out. Then all of them are asked back, in order, behind the vote, and nothing is kept.
+pub fn paths_in_the_way_are_asked_back()
+    ensures out { (s : Server) (by : Session) (p : Part) (file : List ℕ) (number : PathNo) →
+        is_mine s p.file ≡ true → first_gone s.rows by p.uses ≡ None →
+        p.freeze ≡ Some file → through file s.paths.issued ≡ Some number →
+        vote_here s by p ≡ PathsOut number }
+    ensures asked { (s : Server) (from : ℕ) (m : Prepare) (number : PathNo) →
+        (prepare_step from m s).out.note ≡ note.Votes m.txn (PathsOut number) →
+        AreAskedBack from m number s (prepare_step from m s) }
 {}
 
 /// A vote that is not Yes changes nothing but the reading.
@@ -192,6 +235,21 @@ pub fn the_last_part_unlocks_the_rows()
         is_prepared m.txn m.number s.prepared ≡ true →
         is_awaited m.txn (decide_step from m s).server.prepared ≡ false → (r : Row) →
         In r (decide_step from m s).server.rows → is_lock_of m.txn r.lock ≡ false }
+{}
+
+/// While another part of the transaction waits here all files that are kept stay so; with its last one none is kept for it any more.
+/// Those of other transactions stay.
+pub fn the_last_part_frees_the_files()
+    ensures waits { (s : Server) (from : ℕ) (m : Decide) →
+        is_awaited m.txn (decide_step from m s).server.prepared ≡ true →
+        (decide_step from m s).server.paths ≡ s.paths }
+    ensures last { (s : Server) (from : ℕ) (m : Decide) (x : List ℕ × TxnNo) →
+        is_prepared m.txn m.number s.prepared ≡ true →
+        is_awaited m.txn (decide_step from m s).server.prepared ≡ false →
+        In x (decide_step from m s).server.paths.frozen → same_txn x.1 m.txn ≡ false }
+    ensures others { (s : Server) (from : ℕ) (m : Decide) (x : List ℕ × TxnNo) →
+        In x s.paths.frozen → same_txn x.1 m.txn ≡ false →
+        In x (decide_step from m s).server.paths.frozen }
 {}
 
 /// A path that is given out to another server is that of the directory, as it is known here, with the file behind it. Its number is the

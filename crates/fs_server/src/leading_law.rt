@@ -2,28 +2,35 @@
 ghost use Rattle.std.specs.Prelude.{◌≡◌, ◌≤◌, ◌++◌, ℕ, true, false, List, [], ◌∷◌, length, map, None, Some, is_some, slice_get};
 ghost use Rattle.fs_ident.specs.In.{In};
 ghost use Rattle.fs_ident.specs.declared.actor.Peer.{Peer};
+ghost use Rattle.fs_ident.specs.declared.actor.Session.{Session};
 ghost use Rattle.fs_ident.specs.declared.actor.TxnNo.{TxnNo};
-ghost use Rattle.fs_field.specs.Table.{is_lock_of};
+ghost use Rattle.fs_field.specs.Table.{is_lock_of, same_txn};
 ghost use Rattle.fs_field.specs.declared.effect.Effect.{Effect};
 ghost use Rattle.fs_field.specs.declared.row.Row.{Row};
+ghost use Rattle.fs_field.specs.declared.used.Part.{Part};
+ghost use Rattle.fs_field.specs.declared.vote.Vote.TheVariants.{Yes};
 ghost use Rattle.fs_model.specs.declared.reply.Reply.TheVariants.{Renamed};
 ghost use Rattle.fs_msg.specs.declared.answer.Answer.TheVariants as answer;
 ghost use Rattle.fs_msg.specs.declared.done.Done.{Done};
+ghost use Rattle.fs_msg.specs.declared.lead.Lead.{Lead};
 ghost use Rattle.fs_msg.specs.declared.msg.Msg.{Msg};
 ghost use Rattle.fs_msg.specs.declared.peer_msg.PeerMsg.TheVariants.{Decide};
 ghost use Rattle.fs_msg.specs.declared.voted.Voted.{Voted};
 ghost use Rattle.fs_record.specs.declared.led_end.LedEnd.{LedEnd};
+ghost use Rattle.fs_server.specs.Begins.{begins, parts_in, round_of, txn_of};
 ghost use Rattle.fs_server.specs.Concludes.{concludes, end_of_decision, tells};
-ghost use Rattle.fs_server.specs.Counts.{done_step, vote_step};
-ghost use Rattle.fs_server.specs.Follows.{to_server};
+ghost use Rattle.fs_server.specs.Counts.{counts_own, done_step, vote_step, with_vote};
+ghost use Rattle.fs_server.specs.Follows.{to_server, vote_here};
 ghost use Rattle.fs_server.specs.LeadingLaws.{CommitSplits, awaits_this, awaits_vote, of_number};
-ghost use Rattle.fs_server.specs.Server.{strange, to_session};
+ghost use Rattle.fs_server.specs.Server.{is_mine, strange, to_session};
 ghost use Rattle.fs_server.specs.declared.state.Server.{Server};
 ghost use Rattle.fs_txn.specs.Deciding.{decision};
 ghost use Rattle.fs_txn.specs.Leading.{awaits_done, elsewhere, ending_of, leading_of, without_done};
+ghost use Rattle.fs_txn.specs.Votes.{is_full};
 ghost use Rattle.fs_txn.specs.declared.decision.Decision.TheVariants.{Commit, Abort};
 ghost use Rattle.fs_txn.specs.declared.leading.Ending.{Ending};
 ghost use Rattle.fs_txn.specs.declared.leading.Leading.{Leading};
+ghost use Rattle.fs_txn.specs.declared.mode.Mode2.{Mode2};
 
 /// What a commit applies here, and what it tells other servers, are the effects of the operation: each at the server of its part, and in
 /// their order.
@@ -53,6 +60,25 @@ pub fn a_rename_keeps_its_rows()
     ensures last { (m : Done) (s : Server) (x : Ending) → ending_of m.txn s.ending ≡ Some x →
         awaits_done m.number x.awaits ≡ true → (without_done m.number x).awaits ≡ [] →
         (r : Row) → In r (done_step m s).server.rows → is_lock_of m.txn r.lock ≡ false }
+{}
+
+/// While votes are awaited, the file that a part here names which says Yes is kept for the transaction: from the event on in which the
+/// transaction begins, or in which the server finds that it has the part's file itself.
+pub fn an_own_yes_keeps_its_file()
+    ensures begins { (mode : Mode2) (by : Session) (m : Lead) (s : Server) (p : Part)
+        (file : List ℕ) → In p (parts_in mode m) → is_mine s p.file ≡ true →
+        vote_here s by p ≡ Yes → p.freeze ≡ Some file →
+        is_full (round_of mode by m s).votes ≡ false →
+        In (file, txn_of s) (begins mode by m s).server.paths.frozen }
+    ensures counts { (number : ℕ) (p : Part) (file : List ℕ) (l : Leading) (s : Server) →
+        p.freeze ≡ Some file → is_full (with_vote number Yes l).leader.votes ≡ false →
+        In (file, l.leader.txn) (counts_own number p Yes l s).server.paths.frozen }
+{}
+
+/// From its decision on, whichever it is, the transaction keeps no file here where it is.
+pub fn a_decision_frees_the_files()
+    ensures { (l : Leading) (sent : List (Peer × Msg)) (s : Server) (x : List ℕ × TxnNo) →
+        In x (concludes l sent s).server.paths.frozen → same_txn x.1 l.leader.txn ≡ false }
 {}
 
 /// The session is told how its operation ended once nothing is awaited any more: where no other server has a part that said Yes, in the

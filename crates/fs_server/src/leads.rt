@@ -5,7 +5,7 @@ ghost use Rattle.fs_msg.specs.declared.answer.Answer.TheVariants as answer;
 ghost use Rattle.fs_msg.specs.declared.core_error.Counter.{Counter as TheCounter};
 ghost use Rattle.fs_msg.specs.declared.core_error.CoreError.TheVariants as errors;
 ghost use Rattle.fs_server.specs.Decided.{CanDecide, stepped_by};
-ghost use Rattle.fs_server.specs.Leads.{changes_paths, is_led, is_over_paths, lead_refusal, lead_step, moved_why, refuses};
+ghost use Rattle.fs_server.specs.Leads.{is_led, lead_refusal, lead_step, mode_of, moved_why, refuses, stands_on_path, wants_path};
 ghost use Rattle.fs_server.specs.Grants.{IsReady};
 ghost use Rattle.fs_server.specs.Server.{to_session};
 ghost use Rattle.fs_server.specs.Step.{counter_over};
@@ -21,6 +21,7 @@ use fs_ident::{FileId, Kind, List, Memory, Peer, Session, Twin};
 use fs_model::Op;
 use fs_msg::{Answer, CoreError, Lead, Msg, ServerNote};
 use fs_record::{LedEnd, Why};
+use fs_txn::Mode2;
 use std::alloc::Global;
 
 /// The session asks the server to lead a delete or a rename. `Spent` where the transaction would have a number above u64::MAX.
@@ -41,7 +42,7 @@ pub(crate) fn lead(
     }
     match refusal(alloc, at, m)? {
         Some(why) => Ok(refuse(alloc, by, why)?),
-        None => begin(alloc, at, by, m),
+        None => begin(alloc, at, mode_of(&m.op, m.kind), by, m),
     }
 }
 
@@ -60,7 +61,7 @@ fn refusal(alloc: Global, at: &AtReading<'_>, m: &Lead) -> Result<Option<Why>, M
     if !at.is_mine(home) {
         return Ok(Some(moved_why(alloc, at, home)?));
     }
-    if is_over_paths(at, &m.op, m.kind) {
+    if wants_path(at, &m.op, m.kind) {
         return Ok(Some(Why::Wanted {
             file: home.copy(alloc)?,
         }));
@@ -79,24 +80,33 @@ pub(crate) fn moved_why(alloc: Global, at: &AtReading<'_>, file: &FileId) -> Res
     })
 }
 
-/// Whether paths may go over the file.
-fn is_over_paths(at: &AtReading<'_>, op: &Op, kind: Kind) -> bool
-    ensures { result ≡ is_over_paths at.now op.now kind }
+/// Whether a path is wanted: where its file is a directory the operation may stand on one, and none is asked for yet.
+fn wants_path(at: &AtReading<'_>, op: &Op, kind: Kind) -> bool
+    ensures { result ≡ wants_path at.now op.now kind }
 {
     match kind {
         Kind::File => false,
-        Kind::Dir => changes_paths(at, op),
+        Kind::Dir => stands_on_path(at, op),
     }
 }
 
-/// Whether the operation on a directory changes paths.
-fn changes_paths(at: &AtReading<'_>, op: &Op) -> bool
-    ensures { result ≡ changes_paths at.now op.now }
+/// Whether it comes into another directory, which has its record here.
+fn stands_on_path(at: &AtReading<'_>, op: &Op) -> bool
+    ensures { result ≡ stands_on_path at.now op.now }
 {
     match op {
-        Op::Delete { .. } => true,
         Op::Rename { sdir, ddir, .. } => !(sdir == ddir) && at.records().get(ddir).is_some(),
         _ => false,
+    }
+}
+
+/// In which mode it is led: a directory that goes is kept where it is until all is decided.
+fn mode_of(op: &Op, kind: Kind) -> Mode2
+    ensures { result ≡ mode_of op.now kind }
+{
+    match (op, kind) {
+        (Op::Delete { .. }, Kind::Dir) => Mode2::Freeze,
+        _ => Mode2::Plain,
     }
 }
 

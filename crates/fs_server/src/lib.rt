@@ -14,11 +14,15 @@
 //!   other part is copied into a message. What is led so far is looked through for its number (`t` transactions). A commit finds three
 //!   records (log f) at most, and puts a name among those of its directory or takes one away; when it is carried out each row that it
 //!   locks is found (log r), and where it is decided the rows are scanned once to unlock them;
+//! - where a directory goes, a part that keeps it where it is looks for the first path lease over it among those given out; where there is
+//!   one, all of them are looked for, with a message for each. The files that are kept while votes are awaited are put among all that are
+//!   kept, and these are scanned once where it is decided;
 //! - a vote copies the transaction (its parts and their uses) and looks for it among all that are led (t), and so does a part that is
 //!   done; with the last one the rows are scanned once;
 //! - a part that another server asks for scans the rows for each of its uses up to the first whose row is gone, and is copied twice;
-//!   when it is carried out each of its rows is found (log r);
-//! - a decision of such a part finds the records of its effects (log f); with the last part of a transaction it scans the rows once;
+//!   when it is carried out each of its rows is found (log r), and its file is put among all that are kept;
+//! - a decision of such a part finds the records of its effects (log f); with the last part of a transaction it scans the rows once, and the
+//!   files that are kept;
 //! - a turn looks at every record once for the files that are open, and scans the rows once for each session with handles
 //!   on one of these. For one with no lease on its handles it scans them once more, and for each row that was told of the
 //!   modes of others on the file once for each session with handles on it. A handle that is lost finds its record (log f);
@@ -73,14 +77,16 @@ pub use event::ServerEvent;
 pub use law::{
     a_move_that_nothing_refuses_is_made, a_move_that_paths_refuse_asks_them_back,
     a_part_is_decided_once, a_path_is_asked_for_once, a_yes_has_its_rows_locked,
-    an_identifier_comes_behind_all_items, decided_effects_are_applied, items_are_given_in_order,
-    operations_are_led_at_home, parts_here_vote_at_once, parts_of_others_are_voted_on,
-    paths_are_given_as_they_are_known, paths_change_no_file, the_last_part_unlocks_the_rows,
+    a_yes_keeps_its_file, an_identifier_comes_behind_all_items, decided_effects_are_applied,
+    items_are_given_in_order, operations_are_led_at_home, parts_here_vote_at_once,
+    parts_of_others_are_voted_on, paths_are_given_as_they_are_known, paths_change_no_file,
+    paths_in_the_way_are_asked_back, the_last_part_frees_the_files, the_last_part_unlocks_the_rows,
     what_is_not_admitted_changes_no_file, what_is_not_yes_changes_nothing,
 };
 pub use leading_law::{
-    a_commit_splits_by_servers, a_rename_keeps_its_rows, a_session_is_told_when_all_is_done,
-    an_abort_does_nothing, each_part_is_told_once, what_nobody_awaits_is_strange,
+    a_commit_splits_by_servers, a_decision_frees_the_files, a_rename_keeps_its_rows,
+    a_session_is_told_when_all_is_done, an_abort_does_nothing, an_own_yes_keeps_its_file,
+    each_part_is_told_once, what_nobody_awaits_is_strange,
 };
 pub use out::ServerOut;
 pub use plan::Plan;

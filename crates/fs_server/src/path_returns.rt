@@ -147,7 +147,10 @@ fn returns_sent(alloc: Global, back: &GiveBack) -> Result<List<(Peer, Msg)>, Mem
 }
 
 /// Each of the leases is asked back from its server.
-fn ask_all_back(leases: &[(u8, PathNo)], send: &mut List<(Peer, Msg)>) -> Result<(), Memory>
+pub(crate) fn ask_all_back(
+    leases: &[(u8, PathNo)],
+    send: &mut List<(Peer, Msg)>,
+) -> Result<(), Memory>
     ensures { OnOk result (send.new ≡ send.old ++ path_recalls leases.now) }
 {
     for (to, no) in leases {

@@ -39,16 +39,14 @@ pub fn find_leading(leading: &[Leading], txn: TxnNo) -> Option<&Leading>
     leading.iter().find(|l| l.leader.txn == txn)
 }
 
-/// Puts the transaction behind the others, in the place of any of its number. `Memory` where memory is wanting; the others are as they
-/// were then.
-pub fn put_leading(leading: &mut Vec<Leading>, l: Leading) -> Result<(), Memory>
-    ensures ok { OnOk result (leading.new.items ≡ with_leading l leading.old.items) }
-    ensures err { OnErr result (leading.new.items ≡ leading.old.items) }
+/// Puts the transaction behind the others, in the place of any of its number, where there is room for one more.
+pub fn put_leading(leading: &mut Vec<Leading>, l: Leading)
+    requires { vec_len leading.old < vec_capacity leading.old }
+    ensures { leading.new.items ≡ with_leading l leading.old.items }
 {
-    leading.reserve(1)?;
     drop_leading(leading, l.leader.txn);
     match leading.push(l) {
-        Ok(()) => Ok(()),
+        Ok(()) => {}
         Err(_) => unreachable!(),
     }
 }

@@ -51,6 +51,7 @@ use Rattle.fs_txn.specs.Leading.{elsewhere, end_of_decision, without_done}
 use Rattle.fs_txn.specs.declared.decision.Decision.{Decision}
 use Rattle.fs_txn.specs.declared.leading.Ending.{Ending}
 use Rattle.fs_txn.specs.declared.leading.Leading.{Leading}
+use Rattle.fs_txn.specs.declared.mode.Mode2.{Mode2}
 use Rattle.fs_view.specs.declared.view_lease.ViewLease.{ViewLease}
 use Rattle.fs_client.specs.Acts.{act_plan}
 use Rattle.fs_actor.specs.Hearing.{heard_in}
@@ -62,9 +63,9 @@ use Rattle.fs_server.proofs.Leading.{LeadEnds, begun as txn_begun, lead_ends, pu
 use Rattle.fs_server.specs.Begins.{Round, first_round, leader_with, part_round, parts_in, round_of, rounds, txn_of}
 use Rattle.fs_server.specs.Concludes.{ends_now, goes_on, tells}
 use Rattle.fs_server.specs.Counts.{after_own_vote, ask_for, asked_at, done_step, done_with, vote_step, with_vote}
-use Rattle.fs_server.specs.Leads.{lead_step}
+use Rattle.fs_server.specs.Leads.{lead_step, mode_of}
 use Rattle.fs_server.specs.Asks.{asked_in, recall_of, recalls_at}
-use Rattle.fs_server.specs.Follows.{applies, is_prepared, to_server, vote_here, votes}
+use Rattle.fs_server.specs.Follows.{applies, is_prepared, recalls_for as paths_back, to_server, vote_here, votes}
 use Rattle.fs_server.specs.Moves.{fits_here, move_at, parcel_at, peer_step}
 use Rattle.fs_server.specs.Reaps.{lapsed_in, reap_from, recalls_for, turn_over}
 use Rattle.fs_server.specs.Server.{Stepped as CoreStepped, begun as server_begun, is_mine, strange as server_strange}
@@ -77,6 +78,7 @@ use Rattle.fs_server.specs.declared.state.Server.{Server as Core}
 use Rattle.fs_serial.specs.Cluster.{is_with, without_first}
 use Rattle.fs_serial.specs.declared.in_flight.InFlight.{InFlight}
 use Rattle.fs_serial.proofs.Moves.PathSteps.{ArePathSends, each_message, refusal_here, refused}
+use Rattle.fs_serial.proofs.Transactions.Recalled.{recalls_on_paths}
 use Rattle.fs_serial.proofs.Transactions.RoundsLocks.{round_by}
 use Rattle.fs_schedule.specs.declared.event.What.{What}
 use Rattle.fs_schedule.specs.declared.event.What.TheVariants.{Join, Do, Tell, Turn, Recall as AskBack, Move}
@@ -160,6 +162,9 @@ paths_given now ((Server to, msg.Answer a) ∷ rest) sent = absurd sent.0
 paths_given now ((Server to, msg.Client a) ∷ rest) sent = absurd sent.0
 paths_given now ((Client to, m) ∷ rest) sent = absurd sent.0
 
+back_given : (now : List Said) (v : AVote) (s : Core) (p : Part) → AreGiven now (paths_back v s p)
+back_given now v s p = paths_given now (paths_back v s p) (recalls_on_paths v s p)
+
 move_given : (now : List Said) (o : Option MoveError) (prefix : List ℕ) (to : ℕ) (s : Core) → AreGiven now (move_at o prefix to s).out.send
 move_given now (Some why) prefix to s =
     refused (SendsGiven now) s (λ n ms paths asking given noted sent. paths_given now ms sent) why prefix to
@@ -172,7 +177,7 @@ parcel_given now false p s = tt
 prepare_given : (now : List Said) (b : Bool) (v : AVote) (from : ℕ) (m : ToPrepare) (s : Core)
     → AreGiven now (cond b (server_strange s) (votes v from m s)).out.send
 prepare_given now true v from m s = tt
-prepare_given now false v from m s = tt
+prepare_given now false v from m s = back_given now v s m.part
 
 decide_given : (now : List Said) (b : Bool) (from : ℕ) (m : ToDecide) (s : Core)
     → AreGiven now (cond b (applies from m s) (server_strange s)).out.send
@@ -189,7 +194,8 @@ rounds_given : (now : List Said) (txn : TxnNo) (number : ℕ) (by : Session) (ps
 rounds_given now txn number by [] r h = h
 rounds_given now txn number by (p ∷ ps) r h = rounds_given now txn (number + 1) by ps (part_round txn number by p r)
     (elim (is_mine r.server p.file) as (λ b. AreGiven now (round_by txn number by p r b).send) [
-      | true ↦ h
+      | true ↦ given_append now r.send (paths_back (vote_here r.server by p) r.server p) h
+          (back_given now (vote_here r.server by p) r.server p)
       | false ↦ given_append now r.send (to_server (server_of r.server.map p.file) (ask_for txn number by p) ∷ []) h tt
     ])
 
@@ -214,7 +220,8 @@ vote_given now m s = each_vote (SendsGiven now) m s tt
     (λ l p to f. tt)
     (λ l v f. goes_given now (server.Waits l.leader.txn) (with_vote m.number v l) [] s tt)
     (λ l p f. let v : AVote = vote_here s l.leader.session p in
-    goes_given now (server.Waits l.leader.txn) (with_vote m.number v (asked_at m.number s.me l)) [] (after_own_vote l.leader.txn p v s) tt)
+    goes_given now (server.Waits l.leader.txn) (with_vote m.number v (asked_at m.number s.me l)) (paths_back v s p)
+    (after_own_vote l.leader.txn p v s) (back_given now v s p))
 
 left_given : (now : List Said) (x : Ending) (left : List (ℕ × ℕ)) (s : Core) → SendsGiven now (done_with x left s)
 left_given now x [] s = (tt, tt)
@@ -254,9 +261,10 @@ lead_given k by m s from x (unled l) = tt
 lead_given k by m s from x (put_off w l r) = (tt, tt)
 lead_given k by m s from x (txn_begun l r) =
     let now = says from k x.out.note in
-    let g : Round = round_of by m s in
-    goes_given now (server.Prepares (txn_of s)) (record { leader = leader_with (txn_of s) by m g.votes; at = g.at }) g.send g.server
-    (rounds_given now (txn_of s) 0 by (parts_in m) (first_round s) tt)
+    let mode : Mode2 = mode_of m.op m.kind in
+    let g : Round = round_of mode by m s in
+    goes_given now (server.Prepares (txn_of s)) (record { leader = leader_with mode (txn_of s) by m g.votes; at = g.at }) g.send g.server
+    (rounds_given now (txn_of s) 0 by (parts_in mode m) (first_round s) tt)
 
 message_given : (k : ℕ) (by : Session) (m : ClientMsg) (s : Core) (now : ℕ) (from : Option Peer) → from ≡ Some (Client by)
     → AreGiven (says from k (core_steps s now (FromClient by m)).out.note) (core_steps s now (FromClient by m)).out.send

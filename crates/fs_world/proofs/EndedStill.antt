@@ -1,11 +1,12 @@
 -- A lease that had ended where an operation is led has no row after what another server sent either.
-use Rattle.std.proofs.Common.{◌≡◌, ℕ, ◌≤◌, max, true, false, List, [], ◌∷◌, ◌++◌, cond, refl, ap, ◌∙◌, subst, arith}
+use Rattle.std.proofs.Common.{◌≡◌, ℕ, ◌≤◌, max, true, false, List, [], ◌∷◌, ◌++◌, cond, refl, ap, ap₂, ◌∙◌, subst, arith}
 use Rattle.std.specs.Prelude.{None, Some, slice_get}
 use Rattle.fs_ident.specs.declared.actor.LeaseNo.{LeaseNo}
+use Rattle.fs_ident.specs.declared.actor.Peer.{Peer}
 use Rattle.fs_ident.specs.declared.actor.Session.{Session}
 use Rattle.fs_ident.specs.declared.actor.TxnNo.{TxnNo}
-use Rattle.fs_field.specs.declared.row.Row.{Row}
 use Rattle.fs_field.specs.declared.vote.Vote.{Vote as AVote}
+use Rattle.fs_msg.specs.declared.msg.Msg.{Msg}
 use Rattle.fs_msg.specs.declared.peer_msg.PeerMsg.{PeerMsg}
 use Rattle.fs_msg.specs.declared.peer_msg.PeerMsg.TheVariants.{Parcel as OfParcel, Prepare, Vote, Decide, Done}
 use Rattle.fs_msg.specs.declared.prepare.Prepare.{Prepare as ToPrepare}
@@ -22,7 +23,7 @@ use Rattle.fs_txn.specs.declared.leading.Leading.{Leading}
 use Rattle.fs_client.specs.declared.state.Client.{Client}
 use Rattle.fs_server.specs.Concludes.{ends_now, goes_on, keeps_for, tells}
 use Rattle.fs_server.specs.Counts.{after_own_vote, asked_at, done_with, with_vote}
-use Rattle.fs_server.specs.Follows.{applies, is_prepared, ready_of, vote_here, votes}
+use Rattle.fs_server.specs.Follows.{applies, is_prepared, ready_of, recalls_for, vote_here, votes}
 use Rattle.fs_server.specs.Moves.{peer_step}
 use Rattle.fs_server.specs.Server.{Stepped, begun, strange}
 use Rattle.fs_server.specs.Step.{event_step, step}
@@ -34,12 +35,15 @@ use Rattle.fs_serial.specs.Cluster.{without_question}
 use Rattle.fs_serial.specs.EndedLeases.{WasEnded}
 use Rattle.fs_serial.specs.Seen.{ClusterHolds}
 use Rattle.fs_serial.proofs.Lists.SetAt.{get_here, set_twice}
+use Rattle.fs_serial.proofs.Moves.Parcels.{parcels-append}
 use Rattle.fs_serial.proofs.Returns.Lapsing.{begun_at, keep, there_begun}
 use Rattle.fs_serial.proofs.Returns.Lapsing as lapsing
 use Rattle.fs_serial.proofs.Transactions.OtherSteps.{begins_stands}
 use Rattle.fs_serial.proofs.Transactions.OthersKeep.{sent_client, taken_client}
 use Rattle.fs_serial.proofs.Transactions.PlacesAfter.{AreRelocked, names_there, relocked_not, relocked_then, unlocked_so, unlocked_unless}
 use Rattle.fs_serial.proofs.Transactions.PlacesAfter.{voted_so, word_taken}
+use Rattle.fs_serial.proofs.Transactions.Recalled.{recalls_hand_nothing}
+use Rattle.fs_serial.proofs.Transactions.RoundsLocks.{sent_append}
 use Rattle.fs_serial.proofs.WholeRuns.EndedLed.{parcels_then}
 use Rattle.fs_serial.proofs.WholeRuns.EndedOthers.{other_later}
 use Rattle.fs_serial.proofs.WholeRuns.EndedStay.{RowsLater, counts_rise, ended_stays, fewer_later, stepped_later}
@@ -63,26 +67,35 @@ no_parcels k txn d [] [] by e = refl
 no_parcels k txn d [] (x ∷ xs) by e = refl
 no_parcels k txn d (x ∷ xs) now by e = no_parcels k txn d xs now by e
 
+none_more : (k : ℕ) (sent more : List (Peer × Msg)) → parcels_of (in_flight_from k sent) ≡ [] → parcels_of (in_flight_from k more) ≡ []
+    → parcels_of (in_flight_from k (sent ++ more)) ≡ []
+none_more k sent more one other =
+    ap parcels_of (sent_append k sent more) ∙ parcels-append (in_flight_from k sent) (in_flight_from k more)
+    ∙ ap₂ (λ xs ys. xs ++ ys) one other
+
 -- it waits or is decided, after these locks
-goes_locks : (k : ℕ) (n : ServerNote) (l : Leading) (s : Server) (rows : List Row) → AreRelocked s.rows rows
-    → OnlyLocks k s (goes_on n l [] (record s { rows = rows }))
-goes_locks k n l s rows q =
+goes_locks : (k : ℕ) (n : ServerNote) (l : Leading) (sent : List (Peer × Msg)) (s t : Server) → AreRelocked s.rows t.rows
+    → t.given ≡ s.given → parcels_of (in_flight_from k sent) ≡ [] → OnlyLocks k s (goes_on n l sent t)
+goes_locks k n l sent s t q given none =
     let d : Decision = decision l.leader None in
-    let out : List (ℕ × ℕ) = elsewhere s.me l in
-    each_goes (OnlyLocks k s) n l [] (record s { rows = rows })
+    let out : List (ℕ × ℕ) = elsewhere t.me l in
+    let e : LedEnd = end_of_decision d in
+    each_goes (OnlyLocks k s) n l sent t
     (record {
-      rows = relocked_then s.rows rows _ q (unlocked_unless (keeps_for d out) l.leader.txn rows);
-      given = refl;
-      none = no_parcels k l.leader.txn d out out l.leader.session (end_of_decision d);
+      rows = relocked_then s.rows t.rows _ q (unlocked_unless (keeps_for d out) l.leader.txn t.rows);
+      given = given;
+      none = none_more k sent (tells l.leader.txn d out ++ ends_now out l.leader.session e) none
+          (no_parcels k l.leader.txn d out out l.leader.session e);
     })
-    (record { rows = q; given = refl; none = refl })
+    (record { rows = q; given = given; none = none })
 
 done_locks : (k : ℕ) (x : Ending) (left : List (ℕ × ℕ)) (s : Server) → OnlyLocks k s (done_with x left s)
 done_locks k x [] s = record { rows = unlocked_so x.txn s.rows; given = refl; none = refl }
 done_locks k x (y ∷ ys) s = record { rows = relocked_not s.rows; given = refl; none = refl }
 
 voted_locks : (k from : ℕ) (m : ToPrepare) (s : Server) (v : AVote) → OnlyLocks k s (votes v from m s)
-voted_locks k from m s v = let q = voted_rows v (ready_of m) s in record { rows = q.rows; given = q.given; none = refl }
+voted_locks k from m s v =
+    let q = voted_rows v (ready_of m) s in record { rows = q.rows; given = q.given; none = recalls_hand_nothing k v s m.part }
 
 applied_locks : (k from : ℕ) (m : ToDecide) (s : Server) → OnlyLocks k s (applies from m s)
 applied_locks k from m s = record {
@@ -114,10 +127,10 @@ module _ (skew greatest k : ℕ) (c : Cluster) (s : Server) (at : slice_get c.se
   comes_later (Vote m) there = locks_later (Vote m) refl there
       (each_vote (OnlyLocks k s) m s (strange_locks k s)
       (λ l p to f. record { rows = relocked_not s.rows; given = refl; none = refl })
-      (λ l v f. goes_locks k (server_note.Waits l.leader.txn) (with_vote m.number v l) s s.rows (relocked_not s.rows))
+      (λ l v f. goes_locks k (server_note.Waits l.leader.txn) (with_vote m.number v l) [] s s (relocked_not s.rows) refl refl)
       (λ l p f. let v : AVote = vote_here s l.leader.session p in
-      goes_locks k (server_note.Waits l.leader.txn) (with_vote m.number v (asked_at m.number s.me l)) s
-      (after_own_vote l.leader.txn p v s).rows (voted_so v l.leader.txn p.uses s.rows)))
+      goes_locks k (server_note.Waits l.leader.txn) (with_vote m.number v (asked_at m.number s.me l)) (recalls_for v s p) s
+      (after_own_vote l.leader.txn p v s) (voted_so v l.leader.txn p.uses s.rows) refl (recalls_hand_nothing k v s p)))
   comes_later (Decide m) there = locks_later (Decide m) refl there
       (elim (is_prepared m.txn m.number s.prepared) as (λ b. OnlyLocks k s (cond b (applies from m s) (strange s))) [
         | true ↦ applied_locks k from m s

@@ -53,6 +53,7 @@ use Rattle.fs_txn.specs.declared.decision.Decision.TheVariants.{Commit, Abort}
 use Rattle.fs_txn.specs.declared.leader.Leader.{Leader}
 use Rattle.fs_txn.specs.declared.leading.Ending.{Ending}
 use Rattle.fs_txn.specs.declared.leading.Leading.{Leading}
+use Rattle.fs_txn.specs.declared.mode.Mode2.{Mode2}
 use Rattle.fs_msg.specs.declared.prepare.Prepare.{Prepare as ToPrepare}
 use Rattle.fs_msg.specs.declared.peer_msg.PeerMsg.{PeerMsg}
 use Rattle.fs_msg.specs.declared.peer_msg.PeerMsg.TheVariants.{Parcel as OfParcel, Prepare, Vote, Decide, Done}
@@ -61,8 +62,8 @@ use Rattle.fs_server.specs.Begins.{Round, leader_with, round_of, txn_of}
 use Rattle.fs_server.specs.Concludes.{admitted_of, goes_on}
 use Rattle.fs_server.specs.Counts.{after_own_vote, asked_at, done_step, done_with, vote_step, with_vote}
 use Rattle.fs_server.proofs.OneByOne.{each_entry, each_lapsed}
-use Rattle.fs_server.specs.Leads.{is_led, lead_step}
-use Rattle.fs_server.specs.Follows.{applies, is_prepared, vote_here, votes}
+use Rattle.fs_server.specs.Leads.{is_led, lead_step, mode_of}
+use Rattle.fs_server.specs.Follows.{applies, is_prepared, recalls_for, vote_here, votes}
 use Rattle.fs_server.specs.Moves.{fits_here, move_at, parcel_at, peer_step}
 use Rattle.fs_server.specs.Reaps.{lapsed_in, reap_from, reap_item, turn_over}
 use Rattle.fs_server.specs.Server.{Stepped, begun as server_begun, moved, strange as server_strange}
@@ -257,7 +258,7 @@ vote_fine m s led = each_vote AdmitsFine m s tt
     (λ l p to f. tt)
     (λ l v f. goes_fine (server_note.Waits l.leader.txn) (with_vote m.number v l) [] s (among l f))
     (λ l p f. let v : AVote = vote_here s l.leader.session p in
-    goes_fine (server_note.Waits l.leader.txn) (with_vote m.number v (asked_at m.number s.me l)) []
+    goes_fine (server_note.Waits l.leader.txn) (with_vote m.number v (asked_at m.number s.me l)) (recalls_for v s p)
     (after_own_vote l.leader.txn p v s) (among l f))
   where
     among : (l : Leading) → leading_of m.txn s.leading ≡ Some l → AsksAccess l.leader.op
@@ -274,8 +275,9 @@ lead_fine : (by : Session) (m : ToLead) (s : ServerState) (x : Stepped) → Lead
 lead_fine by m s x (unled l) = tt
 lead_fine by m s x (server_puts_off w l r) = tt
 lead_fine by m s x (txn_begun l r) =
-    let g : Round = round_of by m s in
-    goes_fine (server_note.Prepares (txn_of s)) (record { leader = leader_with (txn_of s) by m g.votes; at = g.at }) g.send g.server
+    let mode : Mode2 = mode_of m.op m.kind in
+    let g : Round = round_of mode by m s in
+    goes_fine (server_note.Prepares (txn_of s)) (record { leader = leader_with mode (txn_of s) by m g.votes; at = g.at }) g.send g.server
     (led_asks m.op l)
 
 -- ## Each message of a session

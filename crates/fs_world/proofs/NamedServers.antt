@@ -52,7 +52,7 @@ use Rattle.fs_server.proofs.Leading.{LeadEnds, begun as begins_to_lead, lead_end
 use Rattle.fs_server.proofs.OneByOne.{AskEnds, ShipEnds, each_entry, each_item, each_lapsed, elsewhere, kept_off, misplaced, refused, waits}
 use Rattle.fs_server.specs.Asks.{Asking, ask_fresh, ask_from, ask_step, asked_in, fresh_for, fresh_in, fresh_of, grant_of, kind_for}
 use Rattle.fs_server.specs.Asks.{with_lease}
-use Rattle.fs_server.specs.Leads.{lead_refusal, lead_step, moved_why}
+use Rattle.fs_server.specs.Leads.{lead_refusal, lead_step, mode_of, moved_why}
 use Rattle.fs_server.specs.Moves.{fits_here, move_at, parcel_at, peer_step}
 use Rattle.fs_server.specs.Pairs.{numbers_in, pairs_end, pairs_here, released_rows, renewed_rows}
 use Rattle.fs_server.specs.Reaps.{Reaping, lapsed_in, reap_from, turn_over}
@@ -282,7 +282,7 @@ module _ (servers : ℕ) (sessions : SessionStates) (k : ℕ) (some : k < server
   lead_goes : (by : Session) (m : ToLead) (s : Core) (x : Stepped) → LeadEnds by m s x → HasJoined sessions by → Fine s → Goes x
   lead_goes by m s x (unled l) of h = strange_goes servers sessions k s h
   lead_goes by m s x (put_off w l r) of h = record { server = h; sends = ((of, why_fine m s w r h, refl), tt) }
-  lead_goes by m s x (begins_to_lead l r) of h = begin_goes servers sessions k some by m s of h
+  lead_goes by m s x (begins_to_lead l r) of h = begin_goes servers sessions k some (mode_of m.op m.kind) by m s of h
 
   message_goes : (by : Session) (m : ClientMsg) (s : Core) → HasJoined sessions by → is_readable (msg.Client m) ≡ true → Fine s
       → Goes (message_step by m s)

@@ -10,7 +10,6 @@ use Rattle.fs_ident.specs.declared.actor.TxnNo.{TxnNo}
 use Rattle.fs_ident.proofs.Passing.{found}
 use Rattle.fs_ident.proofs.Standing.{In-more}
 use Rattle.fs_field.specs.Table.{same_txn}
-use Rattle.fs_field.specs.declared.row.Row.{Row}
 use Rattle.fs_field.specs.declared.effect.Effect.{Effect}
 use Rattle.fs_field.specs.declared.used.Part.{Part}
 use Rattle.fs_field.specs.declared.vote.Vote.{Vote}
@@ -30,7 +29,9 @@ use Rattle.fs_record.proofs.AllApplied.{after_all_kept}
 use Rattle.fs_record.specs.Applied.{is_undoable, records_after_all, takes_away}
 use Rattle.fs_record.specs.declared.led_end.LedEnd.{LedEnd}
 use Rattle.fs_serial.proofs.Lists.SetAt.{In_set}
-use Rattle.fs_serial.proofs.Transactions.PlacesAfter.{AreRelocked, locked_so, unlocked_so, unlocked_unless, vote_names, voted_so}
+use Rattle.fs_serial.proofs.Moves.KeptPaths.{kept_alike, left_alike, pathless_still, voted_alike}
+use Rattle.fs_serial.proofs.Transactions.PlacesAfter.{locked_so, unlocked_so, unlocked_unless, vote_names, voted_so}
+use Rattle.fs_serial.proofs.Transactions.Recalled.{no_recalls}
 use Rattle.fs_server.specs.Server.{Stepped, is_mine, strange}
 use Rattle.fs_server.specs.declared.state.Server.{Server as Core}
 use Rattle.fs_server.specs.Begins.{Round, asked_part, begins, first_round, leader_with, own_part, part_round, parts_in, round_of, rounds}
@@ -38,7 +39,8 @@ use Rattle.fs_server.specs.Begins.{txn_of}
 use Rattle.fs_server.specs.Concludes.{concludes, ends_now, goes_on, keeps_for, tells, waits}
 use Rattle.fs_server.specs.Counts.{after_own_vote, ask_for, asked_at, comes_home, counts, counts_own, done_of, done_step, done_with, seeks}
 use Rattle.fs_server.specs.Counts.{sent_on, vote_of, vote_step, voted, with_vote}
-use Rattle.fs_server.specs.Follows.{after_vote, applies, decide_step, is_prepared, prepare_step, ready_of, to_server, vote_here, votes}
+use Rattle.fs_server.specs.Follows.{after_vote, applies, decide_step, is_prepared, prepare_step, ready_of, recalls_for}
+use Rattle.fs_server.specs.Follows.{to_server, vote_here, votes}
 use Rattle.fs_txn.specs.Deciding.{decision, told_effects}
 use Rattle.fs_txn.specs.Leading.{awaits_done, elsewhere, end_of_decision, ending_of, leading_of, own_effects, without_done}
 use Rattle.fs_txn.specs.Preparing.{rows_locked, rows_voted}
@@ -47,6 +49,7 @@ use Rattle.fs_txn.specs.Votes.{Votes, awaits, is_full}
 use Rattle.fs_txn.specs.declared.decision.Decision.{Decision}
 use Rattle.fs_txn.specs.declared.leading.Ending.{Ending}
 use Rattle.fs_txn.specs.declared.leading.Leading.{Leading}
+use Rattle.fs_txn.specs.declared.mode.Mode2.{Mode2}
 use Rattle.fs_txn.specs.declared.ready.Ready.{Ready}
 use Rattle.fs_wire.specs.Readable.{is_readable_effect}
 use Rattle.fs_serial.specs.Places.{VoteNames}
@@ -55,7 +58,7 @@ use Rattle.fs_world.specs.Linked.{Brings, HasJoined, IsEndingOf, IsLeadingOf, Is
 use Rattle.fs_world.proofs.NamedLeading.{AreNamedVotes, TellsOpen, decision_ends, decision_tells, elsewhere_at, ending_more, leading_less}
 use Rattle.fs_world.proofs.NamedLeading.{leading_more, own_tellable, read_open, relocked_of, tellable_open, tellable_read, votes_named}
 use Rattle.fs_world.proofs.NamedMaps.{server_named}
-use Rattle.fs_world.proofs.NamedSends.{AreSent, IsSent, IsStepped, differ, either_goes, strange_goes, with_others}
+use Rattle.fs_world.proofs.NamedSends.{AreSent, IsSent, IsStepped, differ, either_goes, strange_goes}
 use Rattle.fs_world.proofs.OpenHandles.{AddsOpen, each_both, each_left, open_after_all}
 
 module _ (servers : ℕ) (sessions : SessionStates) (k : ℕ) (some : k < servers) where
@@ -81,9 +84,22 @@ module _ (servers : ℕ) (sessions : SessionStates) (k : ℕ) (some : k < server
   sends_one : (to : ℕ) (m : PeerMsg) → to < servers → k ≢ to → Brings servers sessions m → AreSent servers sessions k (to_server to m ∷ [])
   sends_one to m few apart brings = (record { from = some; to = few; apart = apart; brings = brings }, tt)
 
-  -- with other locks
-  relocked_fine : (s : Core) (rows : List Row) → AreRelocked s.rows rows → Fine s → Fine (record s { rows = rows })
-  relocked_fine s rows q h = with_others servers sessions k s rows h (relocked_of (HasJoined sessions) s.rows rows q h.rows)
+  -- no path is asked back
+  recalls_sent : (v : Vote) (p : Part) (s : Core) → Fine s → AreSent servers sessions k (recalls_for v s p)
+  recalls_sent v p s h = subst (AreSent servers sessions k) (sym (no_recalls s h.pathless v p)) tt
+
+  -- with other locks, and other files that transactions keep
+  voted_fine : (txn : TxnNo) (p : Part) (v : Vote) (s : Core) → Fine s → Fine (after_own_vote txn p v s)
+  voted_fine txn p v s h = record {
+    me = h.me;
+    pathless = pathless_still s (after_own_vote txn p v s) (voted_alike v txn p.freeze s.paths) h.pathless;
+    named = h.named;
+    records = h.records;
+    handles = h.handles;
+    rows = relocked_of (HasJoined sessions) s.rows (rows_voted v txn p.uses s.rows) (voted_so v txn p.uses s.rows) h.rows;
+    leading = h.leading;
+    ending = h.ending;
+  }
 
   -- all parts have voted
   end_sends : (out : List (ℕ × ℕ)) (by : Session) (e : LedEnd) → HasJoined sessions by → IsNamedLed servers e
@@ -173,12 +189,12 @@ module _ (servers : ℕ) (sessions : SessionStates) (k : ℕ) (some : k < server
   own_round txn by p r h =
       let v : Vote = vote_here r.server by p in
       record {
-        server = relocked_fine r.server (rows_voted v txn p.uses r.server.rows) (voted_so v txn p.uses r.server.rows) h.server;
+        server = voted_fine txn p v r.server h.server;
         votes =
             one_vote r.votes (Some v)
             (λ w e. let is : v ≡ w = cc in subst (VoteNames servers) is (vote_fine by p r.server h.server)) h.votes;
         at = one_place r.at r.server.me (subst (λ (n : ℕ). n < servers) (sym h.server.me) some) h.at;
-        sends = h.sends;
+        sends = each_both (IsSent servers sessions k) r.send _ h.sends (recalls_sent v p r.server h.server);
       }
 
   asked_round : (txn : TxnNo) (number : ℕ) (by : Session) (p : Part) (to : ℕ) (r : Round) → to < servers → k ≢ to → HasJoined sessions by
@@ -208,8 +224,8 @@ module _ (servers : ℕ) (sessions : SessionStates) (k : ℕ) (some : k < server
   all_rounds txn number by (p ∷ ps) r of h =
       all_rounds txn (number + 1) by ps (part_round txn number by p r) of (each_round txn number by p r of h)
 
-  pub begin_goes : (by : Session) (m : ToLead) (s : Core) → HasJoined sessions by → Fine s → Goes (begins by m s)
-  begin_goes by m s of h =
+  pub begin_goes : (mode : Mode2) (by : Session) (m : ToLead) (s : Core) → HasJoined sessions by → Fine s → Goes (begins mode by m s)
+  begin_goes mode by m s of h =
       let fine : Fine (first_round s).server = record {
         me = h.me;
         pathless = h.pathless;
@@ -221,9 +237,9 @@ module _ (servers : ℕ) (sessions : SessionStates) (k : ℕ) (some : k < server
         ending = h.ending;
       } in
       let first : IsRound (first_round s) = record { server = fine; votes = λ v i. absurd i; at = λ j i. absurd i; sends = tt } in
-      let r : Round = round_of by m s in
-      let all : IsRound (round_of by m s) = all_rounds (txn_of s) 0 by (parts_in m) (first_round s) of first in
-      on_goes (note.Prepares (txn_of s)) (record { leader = leader_with (txn_of s) by m r.votes; at = r.at }) r.send r.server
+      let r : Round = round_of mode by m s in
+      let all : IsRound (round_of mode by m s) = all_rounds (txn_of s) 0 by (parts_in mode m) (first_round s) of first in
+      on_goes (note.Prepares (txn_of s)) (record { leader = leader_with mode (txn_of s) by m r.votes; at = r.at }) r.send r.server
       (record { session = of; at = all.at; votes = all.votes }) all.sends all.server
 
   -- ## A vote comes
@@ -245,11 +261,16 @@ module _ (servers : ℕ) (sessions : SessionStates) (k : ℕ) (some : k < server
       wait_goes (note.Seeks l.leader.txn to) (asked_at number to l) (to_server to (ask_for l.leader.txn number l.leader.session p) ∷ []) s
       (asked_there number to l few own) (sends_one to (ask_for l.leader.txn number l.leader.session p) few apart own.session) h
 
+  counted_goes : (number : ℕ) (v : Vote) (l : Leading) (sent : List (Peer × Msg)) (s : Core) → VoteNames servers v
+      → IsLeadingOf servers sessions l → AreSent servers sessions k sent → Fine s
+      → Goes (goes_on (note.Waits l.leader.txn) (with_vote number v l) sent s)
+  counted_goes number v l sent s named own sends h =
+      on_goes (note.Waits l.leader.txn) (with_vote number v l) sent s
+      (record { session = own.session; at = own.at; votes = votes_named servers l.leader.votes number v named own.votes }) sends h
+
   count_goes : (number : ℕ) (v : Vote) (l : Leading) (s : Core) → VoteNames servers v → IsLeadingOf servers sessions l → Fine s
       → Goes (counts number v l s)
-  count_goes number v l s named own h =
-      on_goes (note.Waits l.leader.txn) (with_vote number v l) [] s
-      (record { session = own.session; at = own.at; votes = votes_named servers l.leader.votes number v named own.votes }) tt h
+  count_goes number v l s named own h = counted_goes number v l [] s named own tt h
 
   home_goes : (number : ℕ) (p : Part) (l : Leading) (s : Core) → IsLeadingOf servers sessions l → Fine s → Goes (comes_home number p l s)
   home_goes number p l s own h = at (is_mine s p.file) refl
@@ -261,9 +282,11 @@ module _ (servers : ℕ) (sessions : SessionStates) (k : ℕ) (some : k < server
       to = server_of s.map p.file
 
       at : (b : Bool) → is_mine s p.file ≡ b → Goes (cond b (counts_own number p v l s) (seeks number to p l s))
-      at true e = count_goes number v (asked_at number s.me l) (after_own_vote l.leader.txn p v s) (vote_fine l.leader.session p s h)
-          (asked_there number s.me l (subst (λ (n : ℕ). n < servers) (sym h.me) some) own)
-          (relocked_fine s (rows_voted v l.leader.txn p.uses s.rows) (voted_so v l.leader.txn p.uses s.rows) h)
+      at true e =
+          counted_goes number v (asked_at number s.me l) (recalls_for v s p) (after_own_vote l.leader.txn p v s)
+          (vote_fine l.leader.session p s h)
+          (asked_there number s.me l (subst (λ (n : ℕ). n < servers) (sym h.me) some) own) (recalls_sent v p s h)
+          (voted_fine l.leader.txn p v s h)
       at false e = seek_goes number to p l s (map_named s p.file h) (not_here s p.file e h) own h
 
   sent_on_goes : (number to : ℕ) (o : Option Part) (l : Leading) (s : Core) → to < servers → IsLeadingOf servers sessions l → Fine s
@@ -336,19 +359,16 @@ module _ (servers : ℕ) (sessions : SessionStates) (k : ℕ) (some : k < server
   -- ## A part of another server's transaction
 
   part_fine : (v : Vote) (x : Ready) (s : Core) → Fine s → Fine (after_vote v x s)
-  part_fine vote.Yes x s h =
-      let rows = rows_locked x.txn x.part.uses s.rows in
-      let fine : Fine (record s { rows = rows }) = relocked_fine s rows (locked_so x.txn x.part.uses s.rows) h in
-      record {
-        me = fine.me;
-        pathless = fine.pathless;
-        named = fine.named;
-        records = fine.records;
-        handles = fine.handles;
-        rows = fine.rows;
-        leading = fine.leading;
-        ending = fine.ending;
-      }
+  part_fine vote.Yes x s h = record {
+    me = h.me;
+    pathless = pathless_still s (after_vote vote.Yes x s) (kept_alike x.txn x.part.freeze s.paths) h.pathless;
+    named = h.named;
+    records = h.records;
+    handles = h.handles;
+    rows = relocked_of (HasJoined sessions) s.rows (rows_locked x.txn x.part.uses s.rows) (locked_so x.txn x.part.uses s.rows) h.rows;
+    leading = h.leading;
+    ending = h.ending;
+  }
   part_fine (vote.Ended lease until now) x s h = h
   part_fine (vote.Moved prefix to) x s h = h
   part_fine (vote.PathsOut lease) x s h = h
@@ -358,7 +378,10 @@ module _ (servers : ℕ) (sessions : SessionStates) (k : ℕ) (some : k < server
       let v : Vote = vote_here s m.session m.part in
       either_goes servers sessions k (is_prepared m.txn m.number s.prepared) (strange s) (votes v from m s)
       (strange_goes servers sessions k s h)
-      (record { server = part_fine v (ready_of m) s h; sends = sends_one from _ few apart (vote_fine m.session m.part s h) })
+      (record {
+        server = part_fine v (ready_of m) s h;
+        sends = ((sends_one from _ few apart (vote_fine m.session m.part s h)).0, recalls_sent v m.part s h);
+      })
 
   pub decide_goes : (from : ℕ) (m : Decide) (s : Core) → from < servers → k ≢ from → list_all is_readable_effect m.effects ≡ true → Fine s
       → Goes (decide_step from m s)
@@ -367,19 +390,18 @@ module _ (servers : ℕ) (sessions : SessionStates) (k : ℕ) (some : k < server
       let takes : List Effect = filter takes_away m.effects in
       let applied : RecordMap = records_after_all s.records puts in
       let plain : AllByRecursion AddsOpen m.effects = read_open m.effects read in
+      let waits_still : Bool = is_awaited m.txn (without_prepared m.txn m.number s.prepared) in
       either_goes servers sessions k (is_prepared m.txn m.number s.prepared) (applies from m s) (strange s)
       (record {
         server = record {
           me = h.me;
-          pathless = h.pathless;
+          pathless = pathless_still s (applies from m s).server (left_alike waits_still m.txn s.paths) h.pathless;
           named = h.named;
           records = after_all_kept applied takes (after_all_kept s.records puts h.records);
           handles =
               open_after_all applied takes (each_left AddsOpen takes_away m.effects plain)
               (open_after_all s.records puts (each_left AddsOpen is_undoable m.effects plain) h.handles);
-          rows =
-              relocked_of (HasJoined sessions) s.rows _
-              (unlocked_unless (is_awaited m.txn (without_prepared m.txn m.number s.prepared)) m.txn s.rows) h.rows;
+          rows = relocked_of (HasJoined sessions) s.rows _ (unlocked_unless waits_still m.txn s.rows) h.rows;
           leading = h.leading;
           ending = h.ending;
         };

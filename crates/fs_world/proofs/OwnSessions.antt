@@ -19,7 +19,7 @@ use Rattle.fs_msg.specs.declared.voted.Voted.{Voted}
 use Rattle.fs_record.specs.declared.parcel.Parcel.{Parcel}
 use Rattle.fs_server.specs.Concludes.{goes_on}
 use Rattle.fs_server.specs.Counts.{after_own_vote, asked_at, done_step, done_with, vote_step, with_vote}
-use Rattle.fs_server.specs.Follows.{applies, ready_of, vote_here, votes}
+use Rattle.fs_server.specs.Follows.{applies, ready_of, recalls_for, vote_here, votes}
 use Rattle.fs_server.specs.Moves.{fits_here, parcel_at, peer_step}
 use Rattle.fs_server.specs.Server.{Stepped, begun, strange}
 use Rattle.fs_server.specs.Step.{step}
@@ -106,7 +106,7 @@ vote_keeps m s = each_vote (Keeps s) m s (λ txn by h. h)
     (λ l v f. goes_keeps (note.Waits l.leader.txn) l (with_vote m.number v l) [] s s refl (by_own m s.leading l f) refl)
     (λ l p f.
     let v : Vote = vote_here s l.leader.session p in
-    goes_keeps (note.Waits l.leader.txn) l (with_vote m.number v (asked_at m.number s.me l)) [] s
+    goes_keeps (note.Waits l.leader.txn) l (with_vote m.number v (asked_at m.number s.me l)) (recalls_for v s p) s
     (after_own_vote l.leader.txn p v s) refl (by_own m s.leading l f) refl)
 
 left_keeps : (x : Ending) (left : List (ℕ × ℕ)) (s : Server) → Keeps s (done_with x left s)

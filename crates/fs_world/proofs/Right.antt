@@ -38,6 +38,7 @@ use Rattle.fs_txn.specs.Deciding.{decision}
 use Rattle.fs_txn.specs.Leading.{end_of_decision, without_done}
 use Rattle.fs_txn.specs.declared.leading.Ending.{Ending}
 use Rattle.fs_txn.specs.declared.leading.Leading.{Leading}
+use Rattle.fs_txn.specs.declared.mode.Mode2.{Mode2}
 use Rattle.fs_client.specs.Answers.{answer_plan, fits, led_plan, strange as strange_plan, fitting_plan}
 use Rattle.fs_client.specs.Client.{begun}
 use Rattle.fs_client.specs.Turns.{ending, idle, release_some, renew_some, returned, ship_some, turn_free, turn_on, turn_plan}
@@ -47,8 +48,8 @@ use Rattle.fs_server.proofs.Leading.{LeadEnds, begun as txn_begun, lead_ends, pu
 use Rattle.fs_server.specs.Begins.{Round, leader_with, round_of, txn_of}
 use Rattle.fs_server.specs.Concludes.{end_note, goes_on}
 use Rattle.fs_server.specs.Counts.{after_own_vote, asked_at, done_step, done_with, vote_step, with_vote}
-use Rattle.fs_server.specs.Leads.{lead_step}
-use Rattle.fs_server.specs.Follows.{applies, is_prepared, vote_here, votes}
+use Rattle.fs_server.specs.Leads.{lead_step, mode_of}
+use Rattle.fs_server.specs.Follows.{applies, is_prepared, recalls_for, vote_here, votes}
 use Rattle.fs_server.specs.Moves.{fits_here, move_at, parcel_at, peer_step}
 use Rattle.fs_server.specs.Reaps.{lapsed_in, turn_over}
 use Rattle.fs_server.specs.Server.{Stepped, begun as server_begun, strange}
@@ -215,7 +216,7 @@ vote_fair ok m s = each_vote (NotesFair ok) m s tt
     (λ l p to f. tt)
     (λ l v f. goes_fair ok (server_note.Waits l.leader.txn) (with_vote m.number v l) [] s tt)
     (λ l p f. let v : AVote = vote_here s l.leader.session p in
-    goes_fair ok (server_note.Waits l.leader.txn) (with_vote m.number v (asked_at m.number s.me l)) []
+    goes_fair ok (server_note.Waits l.leader.txn) (with_vote m.number v (asked_at m.number s.me l)) (recalls_for v s p)
     (after_own_vote l.leader.txn p v s) tt)
 
 left_fair : (ok : Answers) (x : Ending) (left : List (ℕ × ℕ)) (s : Server) → NotesFair ok (done_with x left s)
@@ -238,8 +239,10 @@ lead_fair : (ok : Answers) (by : Session) (m : ToLead) (s : Server) (x : Stepped
 lead_fair ok by m s x (unled l) = tt
 lead_fair ok by m s x (put_off w l r) = tt
 lead_fair ok by m s x (txn_begun l r) =
-    let g : Round = round_of by m s in
-    goes_fair ok (server_note.Prepares (txn_of s)) (record { leader = leader_with (txn_of s) by m g.votes; at = g.at }) g.send g.server tt
+    let mode : Mode2 = mode_of m.op m.kind in
+    let g : Round = round_of mode by m s in
+    goes_fair ok (server_note.Prepares (txn_of s)) (record { leader = leader_with mode (txn_of s) by m g.votes; at = g.at }) g.send g.server
+    tt
 
 -- where each fair answer to the entries is one of these, so is what is noted
 ship_fair : (ok : Answers) (rows : List Row) (by : Session) (now : ℕ) (entries : List Entry) (n : ServerNote)

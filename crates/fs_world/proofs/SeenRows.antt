@@ -60,16 +60,17 @@ use Rattle.fs_txn.specs.Preparing.{row_locked, rows_voted}
 use Rattle.fs_txn.specs.declared.decision.Decision.{Decision}
 use Rattle.fs_txn.specs.declared.leading.Ending.{Ending}
 use Rattle.fs_txn.specs.declared.leading.Leading.{Leading}
+use Rattle.fs_txn.specs.declared.mode.Mode2.{Mode2}
 use Rattle.fs_txn.proofs.Locking.{used_same}
 use Rattle.fs_server.proofs.Leading.{LeadEnds, begun as txn_begun, lead_ends, put_off, unled}
 use Rattle.fs_server.proofs.OneByOne.{each_item, reaps_leave, ships_leave}
 use Rattle.fs_server.specs.Begins.{Round, begins, first_round, leader_with, part_round, parts_in, round_of, rounds, txn_of}
 use Rattle.fs_server.specs.Concludes.{ends_now, goes_on, keeps_for, tells}
 use Rattle.fs_server.specs.Counts.{after_own_vote, ask_for, asked_at, done_step, done_with, vote_step, with_vote}
-use Rattle.fs_server.specs.Leads.{lead_step}
+use Rattle.fs_server.specs.Leads.{lead_step, mode_of}
 use Rattle.fs_server.specs.Asks.{Asking, ask_fresh, ask_from, ask_step, asked_in, fresh_for, fresh_in, fresh_of, kind_for, recall_of}
 use Rattle.fs_server.specs.Asks.{recalls_at, with_lease}
-use Rattle.fs_server.specs.Follows.{applies, is_prepared, to_server, vote_here, votes}
+use Rattle.fs_server.specs.Follows.{applies, is_prepared, recalls_for as paths_back, to_server, vote_here, votes}
 use Rattle.fs_server.proofs.Following.{IsOneOf, decided_rows, voted_rows}
 use Rattle.fs_server.specs.Moves.{fits_here, move_at, parcel_at, peer_step}
 use Rattle.fs_server.specs.Pairs.{numbers_in, pairs_here, released_rows, renewed_rows}
@@ -85,6 +86,7 @@ use Rattle.fs_serial.specs.Cluster.{parcel_in}
 use Rattle.fs_serial.specs.PathLaws.{IsPathMessage}
 use Rattle.fs_serial.proofs.Moves.Parcels.{if_some}
 use Rattle.fs_serial.proofs.Moves.PathSteps.{ArePathSends, each_message, refusal_here, refused}
+use Rattle.fs_serial.proofs.Transactions.Recalled.{recalls_on_paths}
 use Rattle.fs_serial.proofs.Transactions.RoundsLocks.{round_by}
 use Rattle.fs_world.proofs.LedEach.{each_done, each_goes, each_vote}
 use Rattle.fs_world.proofs.OpenHandles.{each_both}
@@ -277,6 +279,26 @@ module _ (these : Session → Type 0) where
       either true = record { rows = after_entries by entries s [] h; sends = (p, tt) }
       either false = strange_of s h
 
+  -- ## Messages of path leases
+
+  path_brings : (m : PeerMsg) → IsPathMessage m → BringsOf these m
+  path_brings (OfParcel p) is = absurd is
+  path_brings (Prepare m) is = absurd is
+  path_brings (Vote m) is = absurd is
+  path_brings (Decide m) is = absurd is
+  path_brings (Done m) is = absurd is
+  path_brings m is = tt
+
+  paths_sent : (ms : List (Peer × Msg)) → ArePathSends ms → AreSentTo these ms
+  paths_sent [] sent = tt
+  paths_sent ((OfServer to, msg.Peer m) ∷ rest) sent = (path_brings m sent.0, paths_sent rest sent.1)
+  paths_sent ((OfServer to, msg.Answer a) ∷ rest) sent = absurd sent.0
+  paths_sent ((OfServer to, msg.Client a) ∷ rest) sent = absurd sent.0
+  paths_sent ((Client to, m) ∷ rest) sent = absurd sent.0
+
+  back_sent : (v : AVote) (s : Server) (p : Part) → AreSentTo these (paths_back v s p)
+  back_sent v s p = paths_sent (paths_back v s p) (recalls_on_paths v s p)
+
   -- ## What the server leads
 
   voted_rows_of : (v : AVote) (txn : TxnNo) (uses : List Use) (rows : List Row) → AreOf these rows
@@ -327,18 +349,22 @@ module _ (these : Session → Type 0) where
   rounds_of txn number by [] r h = h
   rounds_of txn number by (p ∷ ps) r h = rounds_of txn (number + 1) by ps (part_round txn number by p r)
       (elim (is_mine r.server p.file) as (λ b. RoundOf (round_by txn number by p r b)) [
-        | true ↦ record { rows = voted_rows_of (vote_here r.server by p) txn p.uses r.server.rows h.rows; sends = h.sends }
+        | true ↦ record {
+          rows = voted_rows_of (vote_here r.server by p) txn p.uses r.server.rows h.rows;
+          sends = sent_more r.send (paths_back (vote_here r.server by p) r.server p) h.sends
+              (back_sent (vote_here r.server by p) r.server p);
+        }
         | false ↦ record {
           rows = h.rows;
           sends = sent_more r.send (to_server (server_of r.server.map p.file) (ask_for txn number by p) ∷ []) h.sends (tt, tt);
         }
       ])
 
-  begins_of : (by : Session) (m : ToLead) (s : Server) → these by → AreOf these s.rows → IsOf (begins by m s)
-  begins_of by m s p h =
-      let g : Round = round_of by m s in
-      let all : RoundOf g = rounds_of (txn_of s) 0 by (parts_in m) (first_round s) (record { rows = h; sends = tt }) in
-      goes_of (note.Prepares (txn_of s)) (record { leader = leader_with (txn_of s) by m g.votes; at = g.at }) g.send g.server
+  begins_of : (mode : Mode2) (by : Session) (m : ToLead) (s : Server) → these by → AreOf these s.rows → IsOf (begins mode by m s)
+  begins_of mode by m s p h =
+      let g : Round = round_of mode by m s in
+      let all : RoundOf g = rounds_of (txn_of s) 0 by (parts_in mode m) (first_round s) (record { rows = h; sends = tt }) in
+      goes_of (note.Prepares (txn_of s)) (record { leader = leader_with mode (txn_of s) by m g.votes; at = g.at }) g.send g.server
       p all.sends all.rows
 
   vote_of : (m : Voted) (s : Server) → LedOf s → AreOf these s.rows → IsOf (vote_step m s)
@@ -346,8 +372,8 @@ module _ (these : Session → Type 0) where
       (λ l p to f. record { rows = h; sends = (tt, tt) })
       (λ l v f. goes_of (note.Waits l.leader.txn) (with_vote m.number v l) [] s (its l f) tt h)
       (λ l p f. let v : AVote = vote_here s l.leader.session p in
-      goes_of (note.Waits l.leader.txn) (with_vote m.number v (asked_at m.number s.me l)) []
-      (after_own_vote l.leader.txn p v s) (its l f) tt (voted_rows_of v l.leader.txn p.uses s.rows h))
+      goes_of (note.Waits l.leader.txn) (with_vote m.number v (asked_at m.number s.me l)) (paths_back v s p)
+      (after_own_vote l.leader.txn p v s) (its l f) (back_sent v s p) (voted_rows_of v l.leader.txn p.uses s.rows h))
     where
       its : (l : Leading) → leading_of m.txn s.leading ≡ Some l → these l.leader.session
       its l f = led.leading l (found (λ (x : Leading). same_txn x.leader.txn m.txn) s.leading l f).0
@@ -363,7 +389,7 @@ module _ (these : Session → Type 0) where
   lead_of : (by : Session) (m : ToLead) (s : Server) (x : Stepped) → LeadEnds by m s x → these by → AreOf these s.rows → IsOf x
   lead_of by m s x (unled l) p h = strange_of s h
   lead_of by m s x (put_off w l r) p h = record { rows = h; sends = (p, tt) }
-  lead_of by m s x (txn_begun l r) p h = begins_of by m s p h
+  lead_of by m s x (txn_begun l r) p h = begins_of (mode_of m.op m.kind) by m s p h
 
   -- ## Each message of a session
 
@@ -392,23 +418,6 @@ module _ (these : Session → Type 0) where
             recalled_for these (λ (x : Peer × Msg). IsSentTo these x) (λ s n h. h) all.server.rows all.blockers rows;
       }
 
-  -- ## Messages of path leases
-
-  path_brings : (m : PeerMsg) → IsPathMessage m → BringsOf these m
-  path_brings (OfParcel p) is = absurd is
-  path_brings (Prepare m) is = absurd is
-  path_brings (Vote m) is = absurd is
-  path_brings (Decide m) is = absurd is
-  path_brings (Done m) is = absurd is
-  path_brings m is = tt
-
-  paths_sent : (ms : List (Peer × Msg)) → ArePathSends ms → AreSentTo these ms
-  paths_sent [] sent = tt
-  paths_sent ((OfServer to, msg.Peer m) ∷ rest) sent = (path_brings m sent.0, paths_sent rest sent.1)
-  paths_sent ((OfServer to, msg.Answer a) ∷ rest) sent = absurd sent.0
-  paths_sent ((OfServer to, msg.Client a) ∷ rest) sent = absurd sent.0
-  paths_sent ((Client to, m) ∷ rest) sent = absurd sent.0
-
   -- ## Moves
 
   move_of : (o : Option MoveError) (prefix : List ℕ) (to : ℕ) (s : Server) → AreOf these s.rows → IsOf (move_at o prefix to s)
@@ -432,7 +441,10 @@ module _ (these : Session → Type 0) where
   one_of rows row h q = subst these (sym (q.2).session) (h q.0 q.1)
 
   voted_of : (v : AVote) (from : ℕ) (m : ToPrepare) (s : Server) → AreOf these s.rows → IsOf (votes v from m s)
-  voted_of v from m s h = record { rows = λ row i. one_of s.rows row h (voted_rows v from m s row i); sends = (tt, tt) }
+  voted_of v from m s h = record {
+    rows = λ row i. one_of s.rows row h (voted_rows v from m s row i);
+    sends = (tt, back_sent v s m.part);
+  }
 
   prepare_of : (b : Bool) (v : AVote) (from : ℕ) (m : ToPrepare) (s : Server) → AreOf these s.rows
       → IsOf (cond b (strange s) (votes v from m s))

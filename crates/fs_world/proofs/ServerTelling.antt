@@ -52,6 +52,7 @@ use Rattle.fs_txn.specs.declared.decision.Decision.TheVariants.{Commit, Abort}
 use Rattle.fs_txn.specs.declared.leader.Leader.{Leader}
 use Rattle.fs_txn.specs.declared.leading.Ending.{Ending}
 use Rattle.fs_txn.specs.declared.leading.Leading.{Leading}
+use Rattle.fs_txn.specs.declared.mode.Mode2.{Mode2}
 use Rattle.fs_txn.proofs.Keys.{kept_in, txn_is}
 use Rattle.fs_server.specs.Asks.{ask_step, asked_in, recalls_at}
 use Rattle.fs_server.specs.Begins.{Round, first_round, leader_with, parts_in, part_round, round_of, rounds}
@@ -59,8 +60,8 @@ use Rattle.fs_server.specs.Begins.{txn_of}
 use Rattle.fs_server.specs.Concludes.{admitted_of, concludes, ends_now, goes_on, tells, waits}
 use Rattle.fs_server.specs.Counts.{after_own_vote, ask_for, done_of, done_with, seeks}
 use Rattle.fs_server.specs.Counts.{vote_step}
-use Rattle.fs_server.specs.Follows.{after_vote, applies, is_prepared, ready_of, to_server, vote_here, votes}
-use Rattle.fs_server.specs.Leads.{lead_step}
+use Rattle.fs_server.specs.Follows.{after_vote, applies, is_prepared, ready_of, recalls_for as paths_back, to_server, vote_here, votes}
+use Rattle.fs_server.specs.Leads.{lead_step, mode_of}
 use Rattle.fs_server.specs.Moves.{fits_here, move_at, move_step, parcel_at, peer_step}
 use Rattle.fs_server.specs.Reaps.{lapsed_in, reap_from, recalls_for, turn_over, turn_step}
 use Rattle.fs_server.specs.Server.{Stepped, begun, is_mine, strange, to_session}
@@ -81,6 +82,7 @@ use Rattle.fs_serial.proofs.Lists.SetAt.{In_new}
 use Rattle.fs_serial.proofs.Lists.Traffic.{messages, messages_append}
 use Rattle.fs_serial.proofs.Moves.PathSteps.{ArePathSends, each_message, path_stepped, refusal_here, refused}
 use Rattle.fs_serial.proofs.Transactions.LeavesLed.{ask_leaves, move_leaves, ship_leaves, turn_leaves}
+use Rattle.fs_serial.proofs.Transactions.Recalled.{recalls_on_paths}
 use Rattle.fs_serial.proofs.Transactions.RoundsLocks.{round_by}
 use Rattle.fs_serial.proofs.Transactions.RoundsStages.{rounds_server}
 use Rattle.fs_serial.proofs.Transactions.Tables.{In_all, ending_there}
@@ -125,6 +127,10 @@ none_answered k x ((OfSession to, m) ∷ rest) sent = absurd sent.0
 paths_bring : (k : ℕ) (x : Session) (led : Option Led) (ms : List (Peer × Msg)) → ArePathSends ms → Brings k x led ms []
 paths_bring k x led ms sent = ap (λ (answers : List (ℕ × Answer)). items_with x led (messages answers)) (none_answered k x ms sent)
 
+-- so those that ask back what is in the way of a part
+back_unanswered : (k : ℕ) (x : Session) (v : AVote) (s : Server) (p : Part) → answers_to k x (paths_back v s p) ≡ []
+back_unanswered k x v s p = none_answered k x (paths_back v s p) (recalls_on_paths v s p)
+
 -- an answer that brings nothing, and recalls behind it
 one_brings : (k : ℕ) (x : Session) (led : Option Led) (by : Session) (a : Answer) (rest : List (Peer × Msg))
     → ((d : Led) → item_with x (Some d) a ≡ []) → ((m : Peer × Msg) → In m rest → IsRecallTo m) → Brings k x led (to_session by a ∷ rest) []
@@ -157,7 +163,9 @@ rounds_quiet : (k : ℕ) (x : Session) (txn : TxnNo) (number : ℕ) (by : Sessio
 rounds_quiet k x txn number by [] r h = h
 rounds_quiet k x txn number by (p ∷ ps) r h = rounds_quiet k x txn (number + 1) by ps (part_round txn number by p r)
     (elim (is_mine r.server p.file) as (λ b. answers_to k x (round_by txn number by p r b).send ≡ []) [
-      | true ↦ h
+      | true ↦ answers_more k x r.send (paths_back (vote_here r.server by p) r.server p)
+          ∙ ap (λ ms. answers_to k x r.send ++ ms) (back_unanswered k x (vote_here r.server by p) r.server p)
+          ∙ append-nil (answers_to k x r.send) ∙ h
       | false ↦ answers_more k x r.send (to_server (server_of r.server.map p.file) (ask_for txn number by p) ∷ [])
           ∙ append-nil (answers_to k x r.send) ∙ h
     ])
@@ -510,7 +518,10 @@ module _ (k : ℕ) (c : Cluster) (s : Server) (at : slice_get c.servers k ≡ So
       abbrev asks_it : ServerEvent
       asks_it = FromClient by (Lead m)
 
-      asked_awaited : (votes : Votes) → (by.0 == x.0) ≡ true → IsAwaited c x (leader_with (txn_of u) by m votes)
+      abbrev mode : Mode2
+      mode = mode_of m.op m.kind
+
+      asked_awaited : (votes : Votes) → (by.0 == x.0) ≡ true → IsAwaited c x (leader_with mode (txn_of u) by m votes)
       asked_awaited votes mine =
           let up : In (Lead m) (ends_in c by).up =
           In-front (Lead m) (messages (c.lines by).up) (taken_leads by (c.lines by).client.led c.servers)
@@ -541,11 +552,11 @@ module _ (k : ℕ) (c : Cluster) (s : Server) (at : slice_get c.servers k ≡ So
       lead_passes y (unled l) after = quiet asks_it y refl refl refl
       lead_passes y (put_off w l r) after = quiet asks_it y refl (one_brings k x led by _ [] (λ d. refl) (λ n i. absurd i)) refl
       lead_passes y (begins_it l r) after =
-          let g : Round = round_of by m u in
+          let g : Round = round_of mode by m u in
           goes before asks_it (note.Prepares (txn_of u))
-          (record { leader = leader_with (txn_of u) by m g.votes; at = g.at }) g.send g.server
-          (ap (λ (z : Server). z.ending) (rounds_server (txn_of u) 0 by (parts_in m) (first_round u)))
-          (rounds_quiet k x (txn_of u) 0 by (parts_in m) (first_round u) refl)
+          (record { leader = leader_with mode (txn_of u) by m g.votes; at = g.at }) g.send g.server
+          (ap (λ (z : Server). z.ending) (rounds_server (txn_of u) 0 by (parts_in mode m) (first_round u)))
+          (rounds_quiet k x (txn_of u) 0 by (parts_in mode m) (first_round u) refl)
           (λ items. refl) new_txn (asked_awaited g.votes) after
 
     -- ## A vote
@@ -561,11 +572,12 @@ module _ (k : ℕ) (c : Cluster) (s : Server) (at : slice_get c.servers k ≡ So
       among : (l : Leading) → leading_of m.txn s.leading ≡ Some l → In l s.leading
       among l f = (found (λ (z : Leading). same_txn z.leader.txn m.txn) s.leading l f).0
 
-      counted : (l : Leading) (votes : Votes) (places : List ℕ) (t : Server) → In l s.leading → t.ending ≡ s.ending
-          → Passes votes_it (goes_on (note.Waits l.leader.txn) (record { leader = record l.leader { votes = votes }; at = places }) [] t)
-      counted l votes places t i ending =
-          goes before votes_it (note.Waits l.leader.txn) (record { leader = record l.leader { votes = votes }; at = places }) [] t ending
-          refl (λ items. refl) (held.leading s here l i).only (λ mine. let a = leads_awaited l i mine in record {
+      counted : (l : Leading) (votes : Votes) (places : List ℕ) (more : List (Peer × Msg)) (t : Server) → In l s.leading
+          → t.ending ≡ s.ending → answers_to k x more ≡ []
+          → Passes votes_it (goes_on (note.Waits l.leader.txn) (record { leader = record l.leader { votes = votes }; at = places }) more t)
+      counted l votes places more t i ending words =
+          goes before votes_it (note.Waits l.leader.txn) (record { leader = record l.leader { votes = votes }; at = places }) more t ending
+          words (λ items. refl) (held.leading s here l i).only (λ mine. let a = leads_awaited l i mine in record {
             led = a.led;
             is = a.is;
             number = a.number;
@@ -577,10 +589,10 @@ module _ (k : ℕ) (c : Cluster) (s : Server) (at : slice_get c.servers k ≡ So
       vote_passes : Passes votes_it (vote_step m v)
       vote_passes = each_vote (Passes votes_it) m v (λ after. quiet votes_it (strange v) refl refl refl)
           (λ l p to f after. quiet votes_it (seeks m.number to p l v) refl refl refl)
-          (λ l w f. counted l (votes_after l.leader.votes m.number w) l.at v (among l f) refl)
+          (λ l w f. counted l (votes_after l.leader.votes m.number w) l.at [] v (among l f) refl refl)
           (λ l p f. let w : AVote = vote_here v l.leader.session p in
-          counted l (votes_after l.leader.votes m.number w) (slice_set l.at m.number v.me) (after_own_vote l.leader.txn p w v) (among l f)
-          refl)
+          counted l (votes_after l.leader.votes m.number w) (slice_set l.at m.number v.me) (paths_back w v p)
+          (after_own_vote l.leader.txn p w v) (among l f) refl (back_unanswered k x w v p))
 
     -- ## All is done
 
@@ -665,7 +677,9 @@ module _ (k : ℕ) (c : Cluster) (s : Server) (at : slice_get c.servers k ≡ So
           (λ a. IsBrought (FromPeer from (Prepare m)) (cond a (strange b) (votes (vote_here b m.session m.part) from m b))) [
             | true ↦ quiet (FromPeer from (Prepare m)) (strange b) refl refl refl
             | false ↦ quiet (FromPeer from (Prepare m)) (votes (vote_here b m.session m.part) from m b)
-                (vote_keeps (vote_here b m.session m.part) m) refl refl
+                (vote_keeps (vote_here b m.session m.part) m)
+                (ap (λ (answers : List (ℕ × Answer)). items_with x led (messages answers))
+                (back_unanswered k x (vote_here b m.session m.part) b m.part)) refl
           ]
       peer_passes from (Vote m) after = vote_passes now from m after
       peer_passes from (Decide m) after = elim (is_prepared m.txn m.number b.prepared) as

@@ -1,7 +1,7 @@
-//! Path leases at one server: what stands in the way of a move, what is asked back and what goes.
+//! Path leases at one server: what stands in the way of a move, what is asked back and what goes. And files that transactions keep there.
 use crate::forms::{count, kept_by, one, same, spend, with};
 use crate::parcel::id;
-use fs_ident::{FileId, List, PathNo, Twin};
+use fs_ident::{FileId, List, PathNo, Twin, TxnNo};
 use fs_map::FileMap;
 use fs_path::{GiveBack, Paths, Recalled};
 use std::alloc::Global;
@@ -24,9 +24,17 @@ enum Does {
     First(&'static str),
     /// All of those are asked back.
     Clears(&'static str),
+    /// The transaction of this number keeps a file where it is.
+    Keeps(u64, &'static str),
+    /// It keeps two.
+    KeepsBoth(u64, &'static str, &'static str),
+    /// It keeps none any more.
+    Frees(u64),
+    /// Which one keeps this file.
+    Keeper(&'static str),
 }
 
-/// Of how many leases others are told, and the number of the first.
+/// Of how many leases others are told, and the number of the first. Of a file that is kept: one, and the number of the transaction.
 type Told = (usize, u64);
 
 /// What is done, and what the last of it tells.
@@ -101,6 +109,44 @@ const CASES: &[(&[Does], Told)] = &[
         (0, 0),
     ),
     (&[Does::Recall(1)], (0, 0)),
+    (&[Does::Keeps(1, "/1"), Does::Keeper("/1")], (1, 1)),
+    (
+        &[Does::KeepsBoth(1, "/1", "/2"), Does::Keeper("/1")],
+        (1, 1),
+    ),
+    (
+        &[Does::KeepsBoth(1, "/1", "/2"), Does::Keeper("/2")],
+        (1, 1),
+    ),
+    (
+        &[Does::KeepsBoth(1, "/1", "/2"), Does::Keeper("/3")],
+        (0, 0),
+    ),
+    (
+        &[
+            Does::KeepsBoth(2, "/1", "/2"),
+            Does::Keeps(1, "/2"),
+            Does::Keeper("/2"),
+        ],
+        (1, 1),
+    ),
+    (
+        &[
+            Does::KeepsBoth(2, "/1", "/2"),
+            Does::Keeps(1, "/2"),
+            Does::Frees(1),
+            Does::Keeper("/2"),
+        ],
+        (1, 2),
+    ),
+    (
+        &[
+            Does::KeepsBoth(1, "/1", "/2"),
+            Does::Frees(1),
+            Does::Keeper("/2"),
+        ],
+        (0, 0),
+    ),
 ];
 
 /// What the steps tell.
@@ -140,6 +186,49 @@ fn step_of(alloc: Global, paths: &mut Paths, step: Does) -> Result<Told, Fail> {
         Does::Back(number) => Ok(first(paths.released(alloc, no(number))?)),
         Does::First(file) => stands(alloc, paths, file),
         Does::Clears(file) => clear(alloc, paths, file),
+        Does::Keeps(number, file) => keep(alloc, paths, number, file),
+        Does::KeepsBoth(number, one, other) => keep_both(alloc, paths, number, one, other),
+        Does::Frees(number) => {
+            paths.thaw(txn(number));
+            Ok((0, 0))
+        }
+        Does::Keeper(file) => keeper(alloc, paths, file),
+    }
+}
+
+fn txn(count: u64) -> TxnNo {
+    TxnNo { server: 0, count }
+}
+
+fn keep(alloc: Global, paths: &mut Paths, count: u64, file: &str) -> Result<Told, Fail> {
+    let file = id(alloc, file)?;
+    let done = paths.freeze(alloc, &file, txn(count));
+    spend(file);
+    done?;
+    Ok((0, 0))
+}
+
+fn keep_both(
+    alloc: Global,
+    paths: &mut Paths,
+    count: u64,
+    one: &str,
+    other: &str,
+) -> Result<Told, Fail> {
+    let both = files(alloc, one, other)?;
+    let done = paths.freeze_all(alloc, both.as_slice(), txn(count));
+    spend(both);
+    done?;
+    Ok((0, 0))
+}
+
+fn keeper(alloc: Global, paths: &Paths, file: &str) -> Result<Told, Fail> {
+    let file = id(alloc, file)?;
+    let found = paths.frozen(&file);
+    spend(file);
+    match found {
+        Some(txn) => Ok((1, txn.count)),
+        None => Ok((0, 0)),
     }
 }
 
@@ -147,7 +236,7 @@ fn no(count: u64) -> PathNo {
     PathNo { server: 0, count }
 }
 
-/// The two files of a path.
+/// Two files, as those of a path.
 fn files(alloc: Global, dir: &str, file: &str) -> Result<List<FileId>, Fail> {
     let path = one(alloc, id(alloc, dir)?)?;
     let (mut path, last) = with(path, id(alloc, file))?;

@@ -73,7 +73,7 @@ module _ (o : Counts) (skew greatest : ℕ) (journal : List Item) (replied : Ses
     pub fits : refusal_fits x.end (length more) es ≡ true
 
   -- the entry goes past what is decided
-  admitted_apart : (e : Entry) (s : Server) (now : List Item) (d : Settled) → IsAdmitted (seen ds s) by (with_client by d base by) e → AllDecidedStand ds s now → GoesOn skew greatest (sight_with o ds s now) replied ends (with_client by d base) → AllApart ds (effects_of by e.op e.reply)
+  pub admitted_apart : (e : Entry) (s : Server) (now : List Item) (d : Settled) → IsAdmitted (seen ds s) by (with_client by d base by) e → AllDecidedStand ds s now → GoesOn skew greatest (sight_with o ds s now) replied ends (with_client by d base) → AllApart ds (effects_of by e.op e.reply)
   admitted_apart e s now d is under h x i z j =
       let there = seen ds s in
       let clients = with_client by d base in
@@ -85,7 +85,7 @@ module _ (o : Counts) (skew greatest : ℕ) (journal : List Item) (replied : Ses
       entry_apart (nodes_of there.records) s.rows by x.by e.uses h.all.servers.apart (others x i) stand x.effect q.decided q.guarded (gone_there ds s now under x i)
       e.op e.reply (ap (λ k. (walk k always e.op).reply) (sym (known_nodes there.records by)) ∙ right.reply) (covered_there there.records by e plain right) z j
 
-  admitted_then : (e : Entry) (es rest : List Entry) (s : Server) (admitted : List Item) (d : Settled) → d.log ≡ e ∷ (es ++ rest) → d.over ≡ None → first_gone s.rows by e.uses ≡ None → AllDecidedStand ds s (journal ++ admitted) → GoesOn skew greatest (sight_with o ds s (journal ++ admitted)) replied ends (with_client by d base)
+  pub admitted_then : (e : Entry) (es rest : List Entry) (s : Server) (admitted : List Item) (d : Settled) → d.log ≡ e ∷ (es ++ rest) → d.over ≡ None → first_gone s.rows by e.uses ≡ None → AllDecidedStand ds s (journal ++ admitted) → GoesOn skew greatest (sight_with o ds s (journal ++ admitted)) replied ends (with_client by d base)
       → AllDecidedStand ds (with_entry by e s) (journal ++ (admitted ++ item_of by e ∷ [])) × GoesOn skew greatest (sight_with o ds (with_entry by e s) (journal ++ (admitted ++ item_of by e ∷ []))) replied ends (with_client by (acknowledged by (e ∷ (es ++ rest)) d) base)
   admitted_then e es rest s admitted d log over found under h =
       let there = seen ds s in

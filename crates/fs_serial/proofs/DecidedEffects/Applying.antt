@@ -52,7 +52,7 @@ module _ (greatest : ℕ) (w : World) (front its back : List Decided) (whole : w
       by true t = own d e i j t
       by false t = guarded_apart s.rows held d.by e.by d.effect e.effect h.0.all.servers.apart t (f.all.stand d (others_there d i)).guarded (f.all.stand e (its_there e j)).guarded
 
-  apart : AllApart (front ++ back) (effects_in its)
+  pub apart : AllApart (front ++ back) (effects_in its)
   apart d i e j = let q = In-map effect_of e its j in subst (IsApart d.effect) (sym q.1.1) (one_apart d q.0 i q.1.0)
 
   split : effects_in (front ++ (its ++ back)) ≡ effects_in front ++ (effects_in its ++ effects_in back)

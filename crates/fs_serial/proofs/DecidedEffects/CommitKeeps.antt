@@ -20,6 +20,8 @@ use Rattle.fs_model.specs.Asking.{home_of}
 use Rattle.fs_model.specs.declared.op.Op.{Op}
 use Rattle.fs_model.specs.declared.op.Op.TheVariants as op
 use Rattle.fs_model.specs.declared.reply.Reply.{Reply}
+use Rattle.fs_record.specs.Applied.{records_after_all}
+use Rattle.fs_record.specs.LedEffects.{led_effects}
 use Rattle.fs_record.specs.ValueOf.{value_of}
 use Rattle.fs_client.specs.Led.{is_led, lead_of}
 use Rattle.fs_client.specs.declared.led.Led.{Led as TheLed}
@@ -28,13 +30,13 @@ use Rattle.fs_server.specs.Concludes.{concludes}
 use Rattle.fs_server.specs.LeadingLaws.{CommitSplits}
 use Rattle.fs_server.specs.Server.{is_mine}
 use Rattle.fs_server.specs.declared.state.Server.{Server}
-use Rattle.fs_txn.specs.Deciding.{decision, first_end}
+use Rattle.fs_txn.specs.Deciding.{decision, first_end, reply_of}
 use Rattle.fs_txn.specs.Leading.{own_effects, own_parts, said_by}
 use Rattle.fs_txn.specs.Locks.{Agreed}
 use Rattle.fs_txn.specs.Parts.{led_files, part_at, source_of, uses_on, with_file}
 use Rattle.fs_txn.specs.Ready.{agreed_of}
 use Rattle.fs_txn.specs.declared.leading.Leading.{Leading}
-use Rattle.fs_txn.specs.declared.mode.Mode2.TheVariants.{Plain}
+use Rattle.fs_txn.specs.declared.mode.Mode2.{Mode2}
 use Rattle.fs_txn.proofs.Keys.{kept_in}
 use Rattle.fs_view.specs.Gone.{known_with}
 use Rattle.fs_view.specs.Walk.{Known, always, walk}
@@ -50,7 +52,7 @@ use Rattle.fs_serial.specs.Words.{key_of, said_at}
 use Rattle.fs_serial.specs.World.{World, settled_at, sight_in}
 use Rattle.fs_serial.specs.Seen.{ClusterHolds, world_of}
 use Rattle.fs_serial.proofs.DecidedEffects.CommitSeen.{decision_is, own_on}
-use Rattle.fs_serial.proofs.DecidedEffects.CommitStands.{commit_stands}
+use Rattle.fs_serial.proofs.DecidedEffects.CommitStands.{commit_stands, held_so}
 use Rattle.fs_serial.proofs.DecidedEffects.FileApart.{IsFileApart, file_apart}
 use Rattle.fs_serial.proofs.DecidedEffects.HeldSeen.{held_seen}
 use Rattle.fs_serial.proofs.LedOperations.MovedItems.{HasMoved, HasPlace, moved_items, moved_parts, placed_items}
@@ -121,9 +123,9 @@ module _ (values : Field → Value) (d : TheLed) (leads : is_led d.entry.op d.en
         ]
       ]
 
-  pub part_used : (p : Part) → In p (parts_in (lead_of d)) → IsUsed p.uses p.file
-  part_used p i =
-      let q = In-map (part_at Plain d.entry.op d.file d.entry.uses) p (led_files d.entry.op d.file) i in
+  pub part_used : (mode : Mode2) (p : Part) → In p (parts_in mode (lead_of d)) → IsUsed p.uses p.file
+  part_used mode p i =
+      let q = In-map (part_at mode d.entry.op d.file d.entry.uses) p (led_files d.entry.op d.file) i in
       let f : List ℕ = q.0 in
       let u : IsUsed d.entry.uses f = used_in f q.1.0 in
       let on : same (file_of u.used.field) f ≡ true = ap (λ x. same x f) u.file ∙ same_self f in
@@ -175,7 +177,7 @@ module _ (k skew greatest : ℕ) (c : Cluster) (s : Server) (at : slice_get c.se
   -- a part that said Yes here has locked rows here, on its file
   pub own : (n : ℕ × ℕ) (p : Part) → In n (own_parts s.me l) → slice_get l.leader.parts n.0 ≡ Some p → is_mine s p.file ≡ true
   own n p i part =
-      let u : IsUsed p.uses p.file = part_used (value_of (sight_in w).records by) d standing.leads answer p
+      let u : IsUsed p.uses p.file = part_used (value_of (sight_in w).records by) d standing.leads answer l.leader.mode p
       (subst (In p) leads.leader.parts (In-got l.leader.parts n.0 p part)) in
       let y : Agreed = record { key = key_of l.leader.txn n.0; wanted = record { session = by; part = p } } in
       let said : In y (said_by s.me l) = said_so s.me l n.0 n.1 p i part in
@@ -199,4 +201,10 @@ module _ (k skew greatest : ℕ) (c : Cluster) (s : Server) (at : slice_get c.se
     pub commit_keeps : LedHolds (after_concluded k l s c) → WorldStands greatest
         (world_of (concludes l [] s).server (after_concluded k l s c))
     commit_keeps led = commit_stands k skew greatest c s at h l there yes
+        (up_led skew greatest c s here h by s here l there refl d leads.client.led) committed apart own splits led
+
+    -- what all hold together is changed by the operation
+    pub held_after : LedHolds (after_concluded k l s c) → held_seen (after_concluded k l s c)
+        ≡ records_after_all (held_seen c) (led_effects l.leader.op l.leader.file (reply_of l.leader.op))
+    held_after led = held_so k skew greatest c s at h l there yes
         (up_led skew greatest c s here h by s here l there refl d leads.client.led) committed apart own splits led

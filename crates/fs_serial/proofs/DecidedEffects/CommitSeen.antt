@@ -24,13 +24,12 @@ use Rattle.fs_server.specs.Server.{Stepped, is_mine}
 use Rattle.fs_server.specs.declared.state.Server.{Server}
 use Rattle.fs_txn.specs.Decided.{going, held_with, staying}
 use Rattle.fs_txn.specs.Deciding.{agreed, by_path, commit, decision, effects_on, first_end}
-use Rattle.fs_txn.specs.Deciding.{needs_path, reply_of, told_effects, unless_ended}
+use Rattle.fs_txn.specs.Deciding.{reply_of, told_effects, unless_ended}
 use Rattle.fs_txn.specs.Grants.{effects_in}
 use Rattle.fs_txn.specs.Leading.{IsWholeLeader, elsewhere, own_effects, own_parts}
 use Rattle.fs_txn.specs.Parts.{parts_of, source_of}
 use Rattle.fs_txn.specs.declared.decision.Decision.{Decision}
 use Rattle.fs_txn.specs.declared.leading.Leading.{Leading}
-use Rattle.fs_txn.specs.declared.mode.Mode2.TheVariants.{Plain}
 use Rattle.fs_serial.specs.Cluster.{Cluster, parcels_of}
 use Rattle.fs_serial.specs.Conclusions.{after_concluded}
 use Rattle.fs_serial.specs.Decided.{decided_for}
@@ -109,7 +108,7 @@ module _ (k skew greatest : ℕ) (c : Cluster) (s : Server) (at : slice_get c.se
   pub decision_is : decision l.leader None ≡ committing
   decision_is =
       ap (λ o. unless_ended o (agreed l.leader None)) yes
-      ∙ ap (λ m. cond (needs_path m l.leader.op) (by_path l.leader None) (commit l.leader (reply_of l.leader.op))) leads.leader.mode
+      ∙ ap (λ b. cond b (by_path l.leader None) (commit l.leader (reply_of l.leader.op))) leads.leader.mode
 
   pub parcels_then : parcels_of after.in_flight ≡ parcels_of c.in_flight
   parcels_then = decides.parcels_then k skew greatest c s at h l there d
@@ -122,8 +121,7 @@ module _ (k skew greatest : ℕ) (c : Cluster) (s : Server) (at : slice_get c.se
   whole : IsWholeLeader l leads.led.entry.uses
   whole = record {
     parts = leads.leader.parts
-        ∙ ap₂ (λ o f. parts_of o f leads.led.entry.uses Plain) (sym leads.leader.op) (sym leads.leader.file)
-        ∙ ap (parts_of l.leader.op l.leader.file leads.led.entry.uses) (sym leads.leader.mode);
+        ∙ ap₂ (λ o f. parts_of o f leads.led.entry.uses l.leader.mode) (sym leads.leader.op) (sym leads.leader.file);
     asked = leads.asked;
     votes = leads.votes;
   }
@@ -135,6 +133,10 @@ module _ (k skew greatest : ℕ) (c : Cluster) (s : Server) (at : slice_get c.se
         ((m : RecordMap) → records_after_all m (own_effects s.me l committing) ≡ records_after_all m (staying goes all_effects))
         × (flat_map (λ (n : ℕ × ℕ). told_effects committing n.0) out ≡ going goes all_effects)
     split = splits s.me l leads.led.entry.uses (reply_of l.leader.op) _ whole away parted decision_is
+
+    -- what the others are told is what goes
+    pub told_going : flat_map (λ (n : ℕ × ℕ). told_effects committing n.0) (elsewhere s.me l) ≡ going goes all_effects
+    told_going = split.1
 
     pub decided_is : decided_in after ≡ decided_in c ++ decided_for l.leader.session (going goes all_effects)
     decided_is =

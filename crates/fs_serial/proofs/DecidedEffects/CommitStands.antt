@@ -135,7 +135,7 @@ module _ (k skew greatest : ℕ) (c : Cluster) (s : Server) (at : slice_get c.se
   view : WorldStands greatest w
   view = h.parts s here
 
-  effects_are : es ≡ effects_by d
+  pub effects_are : es ≡ effects_by d
   effects_are = ap₂ (λ o f. led_effects o f (reply_of o)) leads.leader.op leads.leader.file
 
   decided_so : decision l.leader None ≡ commit l.leader (reply_of l.leader.op)
@@ -161,17 +161,17 @@ module _ (k skew greatest : ℕ) (c : Cluster) (s : Server) (at : slice_get c.se
     parted : same l.leader.file (source_of l.leader.op) ≡ false
     parted = ap₂ (λ o f. same f (source_of o)) leads.leader.op leads.leader.file ∙ apart.1
 
-    decided_then : decided_in then ≡ decided_in c ++ decided_for by (going sends es)
+    pub decided_then : decided_in then ≡ decided_in c ++ decided_for by (going sends es)
     decided_then = decided_is k skew greatest c s at h l there yes splits away parted
 
-    records_then : records_of_all then.servers (parcels_of then.in_flight) ≡ records_after_all records (staying sends es)
+    pub records_then : records_of_all then.servers (parcels_of then.in_flight) ≡ records_after_all records (staying sends es)
     records_then = records_are k skew greatest c s at h l there yes splits away parted own
 
     held_then : held_seen then ≡ held_with (effects_in (decided_in c ++ decided_for by (going sends es)))
         (records_after_all records (staying sends es))
     held_then = held_is k skew greatest c s at h l there yes splits away parted own
 
-    split : IsSplit sends es
+    pub split : IsSplit sends es
     split = record {
       decided = λ e i.
           let x : Decided = record { by = by; effect = e } in
@@ -236,7 +236,7 @@ module _ (k skew greatest : ℕ) (c : Cluster) (s : Server) (at : slice_get c.se
     abbrev its : Settled
     its = settled_at by (ends_in c by)
 
-    stands : LedStands s.skew greatest now by its d
+    pub stands : LedStands s.skew greatest now by its d
     stands = subst (LedStands s.skew greatest now by its) same_led (led_stands greatest w by m up view.0)
 
     abbrev GoPast : List Effect → Type 0
@@ -244,11 +244,11 @@ module _ (k skew greatest : ℕ) (c : Cluster) (s : Server) (at : slice_get c.se
         → held_with (effects_in (decided_in c ++ decided_for by (going f xs))) (records_after_all records (staying f xs))
         ≡ records_after_all held xs)
 
-    go_past : GoPast es
+    pub go_past : GoPast es
     go_past = subst GoPast (sym effects_are) (subst (λ (x : TheLed). IsCommitted now by its x.entry x.file → GoPast (effects_by x)) same_led
         (λ q. (effects_past greatest w by m up view.0 view.1 q, one_step greatest w by m up view.0 view.1 q)) committed)
 
-    held_so : held_seen then ≡ records_after_all held es
+    pub held_so : held_seen then ≡ records_after_all held es
     held_so = held_then ∙ go_past.1 sends split
 
     led_so : IsLed held by d.entry.op d.file (reply_of d.entry.op)

@@ -43,7 +43,6 @@ use Rattle.fs_txn.specs.Stages.{Key, Told, Wanted, word_to}
 use Rattle.fs_txn.specs.Stages.Word.{Decide}
 use Rattle.fs_txn.specs.declared.decision.Decision.{Decision}
 use Rattle.fs_txn.specs.declared.leading.Leading.{Leading}
-use Rattle.fs_txn.specs.declared.mode.Mode2.TheVariants.{Plain}
 use Rattle.fs_txn.proofs.Keys.{kept_in}
 use Rattle.fs_view.specs.Gone.{known_with}
 use Rattle.fs_view.specs.LedLaws.{IsLed}
@@ -114,7 +113,7 @@ module _ (k skew greatest : ℕ) (c : Cluster) (s : Server) (at : slice_get c.se
   pub telling_then : telling_of after.in_flight ≡ telling_of c.in_flight ++ map (decision_word k t d) out
   telling_then = decides.telling_then k skew greatest c s at h l there d
 
-  ready : (x : ℕ × ℕ) → In x out → IsReadyElsewhere c h.led.parts l x
+  pub ready : (x : ℕ × ℕ) → In x out → IsReadyElsewhere c h.led.parts l x
   ready x i = yes_elsewhere k c s at me h.led l there x i
 
   -- ## The operation
@@ -144,7 +143,7 @@ module _ (k skew greatest : ℕ) (c : Cluster) (s : Server) (at : slice_get c.se
   stands = session_stands k skew greatest c s at h l there it client
 
   -- where nothing is committed nothing is told
-  none_told : (x : ℕ × ℕ) (f : LedEnd) → first_end l.leader.votes ≡ Some f → told_effects d x.0 ≡ []
+  pub none_told : (x : ℕ × ℕ) (f : LedEnd) → first_end l.leader.votes ≡ Some f → told_effects d x.0 ≡ []
   none_told x f e = ap (λ q. told_effects (unless_ended q (agreed l.leader None)) x.0) e
 
   -- ## A part elsewhere
@@ -153,12 +152,12 @@ module _ (k skew greatest : ℕ) (c : Cluster) (s : Server) (at : slice_get c.se
     abbrev r : IsReadyElsewhere c h.led.parts l x
     r = ready x i
 
-    part_there : slice_get (parts_in m) x.0 ≡ Some r.part
+    pub part_there : slice_get (parts_in l.leader.mode m) x.0 ≡ Some r.part
     part_there = ap (λ ps. slice_get ps x.0) (sym leads.leader.parts) ∙ r.asked
 
     uses_are : r.part.uses ≡ uses_on r.part.file it.entry.uses
     uses_are =
-        let q = of_map (part_at Plain o it.file it.entry.uses) (led_files o it.file) x.0 r.part part_there in
+        let q = of_map (part_at l.leader.mode o it.file it.entry.uses) (led_files o it.file) x.0 r.part part_there in
         ap (λ (p : Part). p.uses) q.1.1 ∙ ap (λ f. uses_on f it.entry.uses) (sym (ap (λ (p : Part). p.file) q.1.1))
 
     not_first : (b : Bool) → (0 == x.0) ≡ b → b ≡ false
@@ -171,15 +170,15 @@ module _ (k skew greatest : ℕ) (c : Cluster) (s : Server) (at : slice_get c.se
         absurd (cc)
 
     -- it is on another file than the home's
-    off_home : same (home_of o) r.part.file ≡ false
-    off_home = parts_apart m 0 x.0 (part_at Plain o it.file it.entry.uses (home_of o)) r.part (not_first (0 == x.0) refl)
-        (first_part m) part_there
+    pub off_home : same (home_of o) r.part.file ≡ false
+    off_home = parts_apart l.leader.mode m 0 x.0 (part_at l.leader.mode o it.file it.entry.uses (home_of o)) r.part
+        (not_first (0 == x.0) refl) (first_part l.leader.mode m) part_there
 
     module _ (yes : first_end l.leader.votes ≡ None) where
       abbrev decided : d ≡ commit l.leader (reply_of l.leader.op)
       decided = decision_is k skew greatest c s at h l there yes
 
-      told_is : told_effects d x.0 ≡ effects_on its_effects r.part.file
+      pub told_is : told_effects d x.0 ≡ effects_on its_effects r.part.file
       told_is =
           let all = led_effects l.leader.op l.leader.file (reply_of l.leader.op) in
           ap (λ z. told_effects z x.0) decided
@@ -218,7 +217,7 @@ module _ (k skew greatest : ℕ) (c : Cluster) (s : Server) (at : slice_get c.se
           ∙ ap (λ b. cond b s.rows (rows_unlocked t s.rows)) (ap₂ (λ a b. a && b) e (first_there out x i))
 
       abbrev home : Part
-      home = part_at Plain o it.file it.entry.uses (home_of o)
+      home = part_at l.leader.mode o it.file it.entry.uses (home_of o)
 
       abbrev first : Agreed
       first = record { key = key_of t 0; wanted = record { session = by; part = home } }
@@ -227,7 +226,7 @@ module _ (k skew greatest : ℕ) (c : Cluster) (s : Server) (at : slice_get c.se
       first_said = record {
         txn = refl;
         session = refl;
-        part = ap (λ ps. slice_get ps 0) leads.leader.parts ∙ first_part m;
+        part = ap (λ ps. slice_get ps 0) leads.leader.parts ∙ first_part l.leader.mode m;
         vote = home_yes k skew greatest c s at h l there yes;
         asked = leads.home;
       }

@@ -98,21 +98,21 @@ module _ (k from skew greatest : ℕ) (c : Cluster) (s : Server) (at : slice_get
   pub told : In (word_to key k (Decide m.effects)) (telling_of c.in_flight)
   told = told_word k c s at h.places h.led from m comes
 
-  taken : IsTaken (is_between from k) c.in_flight f
+  pub taken : IsTaken (is_between from k) c.in_flight f
   taken = taken_first (is_between from k) c.in_flight f comes
 
   -- ## What is decided
 
-  abbrev before : List Decided
+  abbrev pub before : List Decided
   before = decided_among c.servers taken.front
 
-  abbrev behind : List Decided
+  abbrev pub behind : List Decided
   behind = decided_among c.servers taken.back
 
-  abbrev its : List Decided
+  abbrev pub its : List Decided
   its = decided_by c.servers (peer.Decide m)
 
-  whole : decided_in c ≡ before ++ (its ++ behind)
+  pub whole : decided_in c ≡ before ++ (its ++ behind)
   whole = ap (decided_among c.servers) taken.whole
       ∙ flat_map-append (λ (g : InFlight). decided_by c.servers g.message) taken.front (f ∷ taken.back)
 
@@ -151,10 +151,10 @@ module _ (k from skew greatest : ℕ) (c : Cluster) (s : Server) (at : slice_get
   rows_then = ap (rows_of_all after.servers) parcels_then
       ∙ rows_relocked k c s then at h.places relocked.change relocked.relock relocked.is
 
-  abbrev records : RecordMap
+  abbrev pub records : RecordMap
   records = records_of_all c.servers (parcels_of c.in_flight)
 
-  records_then : records_of_all after.servers (parcels_of after.in_flight) ≡ records_after_all records (effects_in its)
+  pub records_then : records_of_all after.servers (parcels_of after.in_flight) ≡ records_after_all records (effects_in its)
   records_then =
       ap (records_of_all after.servers) parcels_then
       ∙ records_applied k c s then at h.places m.effects (told_here k c s at h.places h.led from m comes)
@@ -164,7 +164,7 @@ module _ (k from skew greatest : ℕ) (c : Cluster) (s : Server) (at : slice_get
   abbrev w : World
   w = world_of s c
 
-  own : IsOwnApart (before ++ behind) its
+  pub own : IsOwnApart (before ++ behind) its
   own = subst (λ ds. IsOwnApart ds its)
       (flat_map-append (λ (g : InFlight). decided_by c.servers g.message) taken.front taken.back)
       (own_apart skew greatest c h f taken.front taken.back taken.whole)
@@ -200,7 +200,7 @@ module _ (k from skew greatest : ℕ) (c : Cluster) (s : Server) (at : slice_get
       (relocked_holds relock (home_relock s relocked.change relocked.relock) greatest applied applied_stands.0)
 
   -- each that is left stays decided
-  left_before : (d : Decided) → In d (decided_in after) → In d (before ++ behind)
+  pub left_before : (d : Decided) → In d (decided_in after) → In d (before ++ behind)
   left_before d i = subst (In d) decided_then i
 
   was_before : (d : Decided) → In d (before ++ behind) → In d (decided_in c)

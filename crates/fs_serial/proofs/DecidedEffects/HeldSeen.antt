@@ -30,7 +30,7 @@ module _ (c : Cluster) (led : LedHolds c) where
           sym (ap (λ o. effects_in (decided_at o m.effects)) a.is ∙ effects_of_sent a.ending.session m.effects)
       by m e = refl
 
-  all_told : (fs : List InFlight) → ((f : InFlight) → In f fs → In f c.in_flight)
+  pub all_told : (fs : List InFlight) → ((f : InFlight) → In f fs → In f c.in_flight)
       → effects_on_way fs ≡ effects_in (decided_among c.servers fs)
   all_told [] h = refl
   all_told (f ∷ fs) h =

@@ -34,6 +34,7 @@ use Rattle.fs_client.specs.Turns.{pair_of}
 use Rattle.fs_client.specs.declared.led.Led.{Led}
 use Rattle.fs_client.specs.declared.state.Client.{Client}
 use Rattle.fs_txn.specs.Parts.{led_files}
+use Rattle.fs_txn.specs.declared.mode.Mode2.TheVariants.{Plain}
 use Rattle.fs_view.specs.declared.view_lease.ViewLease.{ViewLease}
 use Rattle.fs_view.specs.Gone.{IsUnread, known_with}
 use Rattle.fs_view.specs.ViewLease.{is_leaving, number_of, use_of}
@@ -168,7 +169,7 @@ module _ (skew greatest : ℕ) (s : Sight) (by : Session) (replied : List Item) 
       move_on OnFiles (known_by c.view c.last) o r leads (source_led o moved.0) (home_led o moved.0)
       (λ f e. let q : Some moved.0 ≡ Some f = sym p.0 ∙ e in let same : moved.0 ≡ f = cc in subst OnFiles same (file_led o moved.0))
 
-  of_parts : (u : Use) → In u l.entry.uses → In u (uses_of (parts_in (lead_of l)))
+  of_parts : (u : Use) → In u l.entry.uses → In u (uses_of (parts_in Plain (lead_of l)))
   of_parts u i =
       let q = from-filter_map (item_use c.view c.last) u (walk_in c.view c.last o).items i in
       use_of_part l u i (at q.0 q.1 q.2 (items_on OnFiles (known_by c.view c.last) (given_by c.view c.last) (script_of o) asks q.0 q.1))

@@ -172,7 +172,8 @@ in_flat u p (x ∷ ps) (inl e) j = In-front u x.uses (flat_map (λ (p : Part). p
 in_flat u p (x ∷ ps) (inr i) j = In-behind u x.uses (flat_map (λ (p : Part). p.uses) ps) (in_flat u p ps i j)
 
 -- a lease on one of them is of one of the parts
-pub use_of_part : (l : Led) (u : Use) → In u l.entry.uses → In (file_of u.field) (led_files l.entry.op l.file) → In u (uses_of (parts_in (lead_of l)))
+pub use_of_part : (l : Led) (u : Use) → In u l.entry.uses → In (file_of u.field) (led_files l.entry.op l.file)
+    → In u (uses_of (parts_in Plain (lead_of l)))
 use_of_part l u i j =
     let part = part_at Plain l.entry.op l.file l.entry.uses in
     in_flat u (part (file_of u.field)) (map part (led_files l.entry.op l.file)) (In-mapped part (file_of u.field) (led_files l.entry.op l.file) j)

@@ -1,22 +1,25 @@
--- An event that is no word of a transaction, no message of path leases and no move leaves the server's paths as they are.
+-- An event that is no word of a transaction, no message of another server and no move leaves the server's paths as they are; what transactions
+-- keep is no path.
 use Rattle.std.proofs.Common.{◌≡◌, ℕ, Bool, true, false, List, [], ◌∷◌, cond, refl, ap, ◌∙◌}
 use Rattle.std.specs.Prelude.{Option, Some, None}
 use Rattle.std.specs.List.{list_all}
 use Rattle.fs_field.specs.Table.{borne_numbers}
 use Rattle.fs_field.specs.declared.field.Field.{Field}
 use Rattle.fs_field.specs.declared.lease_kind.LeaseKind.{LeaseKind}
+use Rattle.fs_field.specs.declared.vote.Vote.{Vote}
+use Rattle.fs_field.specs.declared.vote.Vote.TheVariants as vote
 use Rattle.fs_ident.specs.declared.actor.Session.{Session}
+use Rattle.fs_ident.specs.declared.actor.TxnNo.{TxnNo}
 use Rattle.fs_msg.specs.declared.client_msg.ClientMsg.TheVariants.{Ask, Renew, Release, Ship, Lead}
 use Rattle.fs_msg.specs.declared.end.End.{End}
 use Rattle.fs_msg.specs.declared.end.End.TheVariants as end
 use Rattle.fs_msg.specs.declared.entry.Entry.{Entry}
-use Rattle.fs_msg.specs.declared.peer_msg.PeerMsg.TheVariants as peer
 use Rattle.fs_path.specs.Tables.{PathTables}
 use Rattle.fs_record.specs.Effects.{tells_its_effects}
 use Rattle.fs_record.specs.Fresh.{fresh_number, is_directory}
-use Rattle.fs_record.specs.declared.parcel.Parcel.{Parcel}
 use Rattle.fs_server.specs.Asks.{Asking, ask_fresh, ask_from, fresh_for, fresh_in, fresh_of}
-use Rattle.fs_server.specs.Moves.{fits_here, parcel_at}
+use Rattle.fs_server.specs.Counts.{paths_voted}
+use Rattle.fs_server.specs.Follows.{paths_freed, paths_kept}
 use Rattle.fs_server.specs.Reaps.{lapsed_in, turn_over}
 use Rattle.fs_server.specs.Server.{is_mine, moved, strange}
 use Rattle.fs_server.specs.Ships.{ship_from, shipped}
@@ -25,13 +28,39 @@ use Rattle.fs_server.specs.declared.event.ServerEvent.{ServerEvent}
 use Rattle.fs_server.specs.declared.event.ServerEvent.TheVariants as event
 use Rattle.fs_server.specs.declared.state.Server.{Server}
 use Rattle.fs_server.proofs.OneByOne.{asks_leave, reaps_leave, ships_leave}
-use Rattle.fs_serial.specs.Paths.{IsNoPath}
 use Rattle.fs_serial.specs.Seen.{HasNoPaths}
 use Rattle.fs_serial.specs.Words.{IsNoneOfLed}
 
+-- the same path leases are given out, and the same are held: only what transactions keep may be another
+pub record SamePaths (old new : PathTables) : Type 0 where
+  pub issued : new.issued ≡ old.issued
+  pub held : new.held ≡ old.held
+
+pub same_paths : (old new : PathTables) → new ≡ old → SamePaths old new
+same_paths old new e = record { issued = ap (λ (t : PathTables). t.issued) e; held = ap (λ (t : PathTables). t.held) e }
+
+pub then_same : {a b c : PathTables} → SamePaths a b → SamePaths b c → SamePaths a c
+then_same p q = record { issued = q.issued ∙ p.issued; held = q.held ∙ p.held }
+
 -- a server with the same paths has none where the other has none
-pub pathless_still : (s t : Server) → t.paths ≡ s.paths → HasNoPaths s → HasNoPaths t
-pathless_still s t e none = (ap (λ (p : PathTables). p.issued) e ∙ none.0, ap (λ (p : PathTables). p.held) e ∙ none.1)
+pub pathless_still : (s t : Server) → SamePaths s.paths t.paths → HasNoPaths s → HasNoPaths t
+pathless_still s t same none = (same.issued ∙ none.0, same.held ∙ none.1)
+
+-- ## What transactions keep
+
+pub kept_alike : (txn : TxnNo) (file : Option (List ℕ)) (t : PathTables) → SamePaths t (paths_kept txn file t)
+kept_alike txn None t = same_paths t t refl
+kept_alike txn (Some file) t = record { issued = refl; held = refl }
+
+pub voted_alike : (v : Vote) (txn : TxnNo) (file : Option (List ℕ)) (t : PathTables) → SamePaths t (paths_voted v txn file t)
+voted_alike vote.Yes txn file t = kept_alike txn file t
+voted_alike (vote.Ended lease until now) txn file t = same_paths t t refl
+voted_alike (vote.PathsOut lease) txn file t = same_paths t t refl
+voted_alike (vote.Moved prefix to) txn file t = same_paths t t refl
+
+pub left_alike : (b : Bool) (txn : TxnNo) (t : PathTables) → SamePaths t (cond b t (paths_freed txn t))
+left_alike true txn t = same_paths t t refl
+left_alike false txn t = record { issued = refl; held = refl }
 
 -- ## A question
 
@@ -73,13 +102,9 @@ turn_paths : (xs : List (List ℕ × Session)) (s : Server) → (turn_over xs s)
 turn_paths [] s = refl
 turn_paths (x ∷ xs) s = ap (λ (t : Server). t.paths) (reaps_leave (x ∷ xs) s [] [])
 
-parcel_paths : (b : Bool) (p : Parcel) (s : Server) → (parcel_at b p s).server.paths ≡ s.paths
-parcel_paths true p s = refl
-parcel_paths false p s = refl
-
--- no message of path leases, and no move
+-- no message of another server, and no move
 abbrev pub IsOffPaths : ServerEvent → Type 0
-IsOffPaths (event.FromPeer from m) = IsNoPath m
+IsOffPaths (event.FromPeer from m) = ⊥
 IsOffPaths (event.Move prefix to) = ⊥
 IsOffPaths e = Unit {0}
 
@@ -89,15 +114,11 @@ event_paths (event.FromClient by (Renew pairs)) s none off = refl
 event_paths (event.FromClient by (Release pairs)) s none off = refl
 event_paths (event.FromClient by (Ship es)) s none off = ship_paths by es s (list_all (λ (e : Entry). tells_its_effects e.op) es)
 event_paths (event.FromClient by (Lead m)) s none off = absurd none
-event_paths (event.FromPeer from (peer.Parcel p)) s none off = parcel_paths (fits_here p s) p s
-event_paths (event.FromPeer from (peer.Prepare m)) s none off = absurd (cc none)
-event_paths (event.FromPeer from (peer.Vote m)) s none off = absurd (cc none)
-event_paths (event.FromPeer from (peer.Decide m)) s none off = absurd (cc none)
-event_paths (event.FromPeer from (peer.Done m)) s none off = absurd (cc none)
 event_paths (event.FromPeer from m) s none off = absurd off
 event_paths event.Turn s none off = turn_paths (lapsed_in s) s
 event_paths (event.Recall field) s none off = refl
 event_paths (event.Move prefix to) s none off = absurd off
 
 pub event_pathless : (e : ServerEvent) (s : Server) → IsNoneOfLed e → IsOffPaths e → HasNoPaths s → HasNoPaths (event_step e s).server
-event_pathless e s none off = pathless_still s (event_step e s).server (event_paths e s none off)
+event_pathless e s none off =
+    pathless_still s (event_step e s).server (same_paths s.paths (event_step e s).server.paths (event_paths e s none off))

@@ -74,7 +74,7 @@ abbrev pub ArePathSends : List (Peer × Msg) → Type 0
 ArePathSends [] = Unit {0}
 ArePathSends (x ∷ rest) = IsPathSend x × ArePathSends rest
 
-recalls_sent : (leases : List (ℕ × PathNo)) → ArePathSends (path_recalls leases)
+pub recalls_sent : (leases : List (ℕ × PathNo)) → ArePathSends (path_recalls leases)
 recalls_sent [] = tt
 recalls_sent (x ∷ rest) = (tt, recalls_sent rest)
 

@@ -1,6 +1,6 @@
 -- A lease stays true where as much stays as it speaks of.
 use Rattle.std.proofs.Common.{◌≡◌, ◌∙◌, Bool, true, false, List, [], ◌∷◌, ℕ, refl, sym, ap, subst, cond, inl, inr}
-use Rattle.std.specs.Prelude.{Some}
+use Rattle.std.specs.Prelude.{◌⊎◌, Some}
 use Rattle.std.proofs.lemmas.Option.{none-some, same_Some}
 use Rattle.fs_ident.specs.In.{In}
 use Rattle.fs_ident.specs.declared.actor.TxnNo.{TxnNo}
@@ -62,17 +62,32 @@ supported_alike s t (f ∷ d ∷ ds) same held a = (
       ),
 )
 
+-- a run is of its way up
+run_among : (t : Server) (up : List (List ℕ)) (f : List ℕ) → In f (run_up t up) → In f up
+run_among t [] f i = i
+run_among t (g ∷ gs) f i = by (has_record t g) i (run_among t gs f)
+  where
+    by : (b : Bool) → In f (cond b (g ∷ run_up t gs) []) → (In f (run_up t gs) → In f gs) → In f (g ∷ gs)
+    by true (inl e) rest = inl e
+    by true (inr j) rest = inr (rest j)
+    by false j rest = absurd j
+
+-- a path avoids what is not on it
+avoids_other : (t : Server) (f : List ℕ) (up : List (List ℕ)) → (In f up → ⊥) → Avoids t f up
+avoids_other t f [] out = tt
+avoids_other t f (g ∷ gs) out = (λ e. out (inl (sym e)), λ i. out (inr (run_among t gs f i)))
+
 avoids_alike : (s t : Server) (g : List ℕ) (up : List (List ℕ)) → HasAlike s t up → Avoids s g up → Avoids t g up
 avoids_alike s t g [] same a = a
 avoids_alike s t g (f ∷ fs) same a = (a.0, λ i. a.1 (subst (In g) (run_alike s t fs (λ x j. same x (inr j))) i))
 
 -- ## A lease
 
--- of the files of the lease the server has the same, and what the lease may rest on is held; and no more is kept
+-- of the files of the lease the server has the same, and what the lease may rest on is held; and no more of them are kept
 pub record KeepsFor (s t : Server) (l : PathLease) : Type 0 where
   pub here : HasAlike s t l.path
   pub held : HeldAlike s t l.path
-  pub kept : (f : List ℕ) → is_kept t f ≡ true → is_kept s f ≡ true
+  pub kept : (f : List ℕ) → is_kept t f ≡ true → (is_kept s f ≡ true) ⊎ (In f l.path → ⊥)
 
 pub true_alike : (m n : RecordMap) (i j : List Item) (s t : Server) (l : PathLease) → ((f : List ℕ) → In f l.path → dir_here n f ≡ dir_here m f)
     → ((f : List ℕ) → made i f ≡ Some Dir → made j f ≡ Some Dir)
@@ -82,7 +97,10 @@ true_alike m n i j s t l up dirs k r = record {
   chain = chain_alike m n (upwards l) (λ f x. up f (In_down l f x)) r.chain;
   dirs = λ f x. dirs f (r.dirs f x);
   supported = supported_alike s t (upwards l) (λ f x. k.here f (In_down l f x)) (λ files of. k.held files (λ f x. In_down l f (of f x))) r.supported;
-  avoids = λ f z. avoids_alike s t f (upwards l) (λ g x. k.here g (In_down l g x)) (r.avoids f (k.kept f z));
+  avoids = λ f z. elim (k.kept f z) as (λ _. Avoids t f (upwards l)) [
+    | inl was ↦ avoids_alike s t f (upwards l) (λ g x. k.here g (In_down l g x)) (r.avoids f was)
+    | inr out ↦ avoids_other t f (upwards l) (λ x. out (In_down l f x))
+  ];
 }
 
 -- a lease that is held is held where the table of those that are is the same
@@ -94,7 +112,7 @@ pub keeps_same : (s t : Server) (l : PathLease) → t.records ≡ s.records → 
 keeps_same s t l records held frozen = record {
   here = λ f i. ap (λ m. has_there m f) records;
   held = λ files of p. held_still s t files held p;
-  kept = λ f z. ap (λ r. is_frozen r f) (sym frozen) ∙ z;
+  kept = λ f z. inl (ap (λ r. is_frozen r f) (sym frozen) ∙ z);
 }
   where
     has_there : RecordMap → List ℕ → Bool

@@ -13,7 +13,7 @@ use Rattle.fs_msg.specs.declared.msg.Msg.{Msg}
 use Rattle.fs_msg.specs.declared.peer_msg.PeerMsg.TheVariants.{PathRecall, PathRelease}
 use Rattle.fs_msg.specs.declared.server_note.ServerNote.{ServerNote}
 use Rattle.fs_msg.specs.declared.server_note.ServerNote.TheVariants as note
-use Rattle.fs_path.specs.Leases.{PathLease, goes_over, same_path_no, told}
+use Rattle.fs_path.specs.Leases.{PathLease, goes_over, same_path_no, named_to_peer}
 use Rattle.fs_path.specs.Returns.{goes_back, held_after, is_asked_in, is_into, is_needed, is_of, recalled_as, recalls, releases, rests_on_asked}
 use Rattle.fs_path.specs.Tables.{lease_of}
 use Rattle.fs_path.specs.declared.having.Having.{Having}
@@ -158,10 +158,10 @@ module _ (c : Cluster) (k from : ℕ) (s : Server) (number : PathNo) (t : Tokens
 
   recalled_by : (o : Option Having) → find (is_of number) s.paths.held ≡ o
       → (down : List PathLease) → filter (rests_on_asked (is_of number) s.paths.held) s.paths.issued ≡ down
-      → TokensKept (after_step k e (goes_down number (recalled_as (option_map (λ h. (lease_of h).peer) o) (map told down)) then_its) c)
+      → TokensKept (after_step k e (goes_down number (recalled_as (option_map (λ h. (lease_of h).peer) o) (map named_to_peer down)) then_its) c)
   recalled_by None q down d = none_back note.PathNone []
   recalled_by (Some h) q [] d = let f = found (is_of number) s.paths.held h q in back h f.0 f.1 d
-  recalled_by (Some h) q (l ∷ ls) d = none_back (note.PathDown number (length (told l ∷ map told ls))) (told l ∷ map told ls)
+  recalled_by (Some h) q (l ∷ ls) d = none_back (note.PathDown number (length (named_to_peer l ∷ map named_to_peer ls))) (named_to_peer l ∷ map named_to_peer ls)
 
   pub recall_kept : TokensKept (after_path k from (PathRecall number) s c)
   recall_kept = recalled_by (find (is_of number) s.paths.held) refl (filter (rests_on_asked (is_of number) s.paths.held) s.paths.issued) refl

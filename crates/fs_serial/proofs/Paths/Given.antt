@@ -141,7 +141,7 @@ module _ (c : Cluster) (k : ℕ) (s : Server) (stand : PathsStand c) (h : PathsH
       (record {
         here = λ f m. refl;
         held = λ files of p. record { lease = p.lease; held = among p.lease p.held; path = p.path };
-        kept = λ f z. z;
+        kept = λ f z. inl z;
       })
       (h.truth s (In-got c.servers k s at) l i)
 

@@ -24,7 +24,7 @@ use Rattle.fs_server.specs.declared.event.ServerEvent.TheVariants.{FromPeer}
 use Rattle.fs_server.specs.declared.state.Server.{Server}
 use Rattle.fs_serial.specs.Cluster.{Cluster, InFlight, IsThere, after_step, in_flight_from, without_arrived}
 use Rattle.fs_serial.specs.PathLaws.{IsPathMessage, NoPathIsStrange, after_path}
-use Rattle.fs_serial.specs.Paths.{IsNoPath, LeavesPaths, SaysPath, has_path}
+use Rattle.fs_serial.specs.Paths.{LeavesPaths, has_path}
 use Rattle.fs_serial.proofs.Lists.Counted.{how_many, none_passes}
 use Rattle.fs_serial.proofs.Paths.Asked.{AsksOfDirectories, ask_kept}
 use Rattle.fs_serial.proofs.Paths.AskedBack.{recall_kept}
@@ -106,19 +106,6 @@ none_strange c k from s m h at there is e = absurd is
 
 -- ## Every other kind of step
 
-nothing_said : (c : Cluster) (from to : ℕ) (m : PeerMsg) → IsNoPath m → SaysPath c from to m
-nothing_said c from to (PathAsk file dir) none = absurd none
-nothing_said c from to (Denied file w) none = absurd none
-nothing_said c from to (PathGrant number file path) none = absurd none
-nothing_said c from to (PathRecall number) none = absurd none
-nothing_said c from to (PathRelease number) none = absurd none
-nothing_said c from to m none = tt
-
-nothing_brought : (n : PathNo) (m : PeerMsg) → IsNoPath m → has_path n m ≡ false
-nothing_brought n (PathGrant number file path) none = absurd none
-nothing_brought n (PathRelease number) none = absurd none
-nothing_brought n m none = refl
-
 pub others_kept : (c : Cluster) (k : ℕ) (e : ServerEvent) (s : Server) (x : Stepped) → TokensKept c → slice_get c.servers k ≡ Some s
     → LeavesPaths k e s x c (after_step k e x c) → TokensKept (after_step k e x c)
 others_kept c k e s x t at l = asks_on c k e s x t at (record {
@@ -127,12 +114,12 @@ others_kept c k e s x t at l = asks_on c k e s x t at (record {
   held = l.held;
   given = l.given;
   journal = l.journal;
-  sent = λ f i. nothing_said (after_step k e x c) f.from f.to f.message (l.sent f i);
+  sent = λ f i. (l.sent f i).0;
   brings = λ n.
       let before = how_many (λ (f : InFlight). has_path n f.message) c.in_flight in
       let left = how_many (λ (f : InFlight). has_path n f.message) (without_arrived k e c.in_flight) in
       let same = ap length (l.taken n) in
       let none : on_way n (in_flight_from k x.out.send) ≡ 0 =
-      none_passes (λ (f : InFlight). has_path n f.message) (in_flight_from k x.out.send) (λ f i. nothing_brought n f.message (l.sent f i)) in
+      none_passes (λ (f : InFlight). has_path n f.message) (in_flight_from k x.out.send) (λ f i. (l.sent f i).1 n) in
       omega (arith, before, left, same, none);
 })

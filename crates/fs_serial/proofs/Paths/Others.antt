@@ -1,17 +1,30 @@
 -- Every other kind of step leaves all leases true.
-use Rattle.std.proofs.Common.{◌≡◌, ◌∙◌, ℕ, List, Bool, sym, ap, subst}
-use Rattle.std.specs.Prelude.{Some, slice_get}
+use Rattle.std.proofs.Common.{◌≡◌, ◌∙◌, ℕ, List, true, false, sym, subst, inl, inr}
+use Rattle.std.specs.Prelude.{◌⊎◌, None, Some, slice_get}
+use Rattle.std.specs.List.{find}
+use Rattle.fs_ident.specs.Ident.{same}
 use Rattle.fs_ident.specs.In.{In}
-use Rattle.fs_ident.specs.declared.actor.TxnNo.{TxnNo}
-use Rattle.fs_ident.proofs.Standing.{In-got}
-use Rattle.fs_path.specs.Leases.{PathLease}
+use Rattle.fs_ident.proofs.Same.{same_self}
+use Rattle.fs_ident.proofs.Standing.{In-got, none_pass}
+use Rattle.fs_moderows.proofs.Witnesses.{In_any}
+use Rattle.fs_path.specs.Leases.{PathLease, goes_over}
+use Rattle.fs_path.specs.Tables.{through}
 use Rattle.fs_server.specs.Server.{Stepped}
 use Rattle.fs_server.specs.declared.event.ServerEvent.{ServerEvent}
 use Rattle.fs_server.specs.declared.state.Server.{Server}
 use Rattle.fs_serial.specs.Cluster.{Cluster, after_step}
 use Rattle.fs_serial.specs.Paths.{IsTruePath, LeavesPaths, PathsHold, is_kept}
 use Rattle.fs_serial.specs.Runs.{held_by}
+use Rattle.fs_serial.proofs.Lists.Journals.{none_mapped}
 use Rattle.fs_serial.proofs.Paths.Alike.{all_true, held_still, on_path, true_alike}
+
+-- where no path that was given out goes over the file, it is on none
+off_path : (s : Server) (f : List ℕ) (l : PathLease) → through f s.paths.issued ≡ None → In l s.paths.issued → In f l.path → ⊥
+off_path s f l none i m =
+    let over : goes_over f l ≡ true = In_any (λ g. same g f) l.path f m (same_self f) in
+    let none_over = none_pass (goes_over f) s.paths.issued (none_mapped (λ (x : PathLease). x.no) (find (goes_over f) s.paths.issued) none) l i in
+    let wrong : true ≡ false = sym over ∙ none_over in
+    absurd (cc wrong)
 
 pub others_true : (c : Cluster) (k : ℕ) (e : ServerEvent) (s : Server) (x : Stepped) → PathsHold c → slice_get c.servers k ≡ Some s
     → LeavesPaths k e s x c (after_step k e x c)
@@ -24,9 +37,9 @@ others_true c k e s x h at leaves =
     (record {
       here = λ f m. leaves.here l f j m;
       held = λ files of p. held_still s x.server files leaves.held p;
-      kept = λ f z. ap (is_frozen f) (sym leaves.frozen) ∙ z;
+      kept = λ f z. elim (leaves.kept f z) as (λ _. (is_kept s f ≡ true) ⊎ (In f l.path → ⊥)) [
+        | inl was ↦ inl was
+        | inr none ↦ inr (λ m. off_path s f l none j m)
+      ];
     })
     (h.truth s there l j)))
-  where
-    is_frozen : List ℕ → List (List ℕ × TxnNo) → Bool
-    is_frozen f frozen = is_kept (record s { paths = record s.paths { frozen = frozen } }) f

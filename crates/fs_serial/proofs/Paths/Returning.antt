@@ -9,7 +9,7 @@ use Rattle.fs_ident.proofs.Standing.{In-filter, In-map}
 use Rattle.fs_msg.specs.declared.msg.Msg.{Msg}
 use Rattle.fs_msg.specs.declared.msg.Msg.TheVariants as msg
 use Rattle.fs_msg.specs.declared.peer_msg.PeerMsg.TheVariants.{PathRelease}
-use Rattle.fs_path.specs.Leases.{PathLease, told}
+use Rattle.fs_path.specs.Leases.{PathLease, named_to_peer}
 use Rattle.fs_path.specs.Returns.{asked_back, goes_back, held_after, is_of, releases}
 use Rattle.fs_path.specs.Tables.{lease_of}
 use Rattle.fs_path.specs.declared.having.Having.{Having}
@@ -22,7 +22,7 @@ use Rattle.fs_serial.proofs.Paths.Counting.{asked_lease, had, had_after, on_way}
 -- ## On their way
 
 abbrev back : List Having → List (ℕ × PathNo)
-back hs = map (λ h. told (lease_of h)) hs
+back hs = map (λ h. named_to_peer (lease_of h)) hs
 
 each_back : (n : PathNo) (k : ℕ) (hs : List Having) → on_way n (in_flight_from k (path_releases (back hs))) ≡ had n hs
 each_back n k [] = refl

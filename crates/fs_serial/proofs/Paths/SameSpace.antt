@@ -40,7 +40,7 @@ use Rattle.fs_serial.proofs.Paths.Alike.{all_true, keeps_same, true_alike}
 
 -- ## Messages
 
-picked_without : {X Y : Type 0} (pick : X → Option Y) (is : X → Bool) (xs : List X) (x : X) → find is xs ≡ Some x → pick x ≡ None
+pub picked_without : {X Y : Type 0} (pick : X → Option Y) (is : X → Bool) (xs : List X) (x : X) → find is xs ≡ Some x → pick x ≡ None
     → filter_map pick (without_first is xs) ≡ filter_map pick xs
 picked_without pick is [] x e n = refl
 picked_without {X = X} pick is (y ∷ ys) x e n =
@@ -49,7 +49,7 @@ picked_without {X = X} pick is (y ∷ ys) x e n =
       | false ↦ λ q. ap (cons_option (pick y)) (picked_without pick is ys x q n)
     ] e
 
-given_without : {X Y : Type 0} (gives : X → List Y) (is : X → Bool) (xs : List X) (x : X) → find is xs ≡ Some x → gives x ≡ []
+pub given_without : {X Y : Type 0} (gives : X → List Y) (is : X → Bool) (xs : List X) (x : X) → find is xs ≡ Some x → gives x ≡ []
     → flat_map gives (without_first is xs) ≡ flat_map gives xs
 given_without gives is [] x e n = refl
 given_without {X = X} gives is (y ∷ ys) x e n =
@@ -101,23 +101,30 @@ asking_back_step prefix n s =
     refused (IsPathStep s) s (λ n ms paths asking given note are. record { records = refl; admitted = refl; sent = are }) (move.Paths number) prefix 0 in
     record { records = p.records; admitted = p.admitted; sent = p.sent }
 
-pub same_space : (c : Cluster) (k : ℕ) (e : ServerEvent) (s : Server) (x : Stepped) → slice_get c.servers k ≡ Some s → TakesNothing k e c
-    → IsPathStep s x → held_by (after_step k e x c) ≡ held_by c
-same_space c k e s x at takes p =
+-- where its records stay, and nothing comes or goes that brings a parcel or effects
+pub space_still : (c : Cluster) (k : ℕ) (e : ServerEvent) (s : Server) (x : Stepped) → slice_get c.servers k ≡ Some s → TakesNothing k e c
+    → x.server.records ≡ s.records → parcels_of (in_flight_from k x.out.send) ≡ [] → effects_on_way (in_flight_from k x.out.send) ≡ []
+    → held_by (after_step k e x c) ≡ held_by c
+space_still c k e s x at takes still handed told =
     let later : List InFlight = without_arrived k e c.in_flight ++ in_flight_from k x.out.send in
     let parcels : parcels_of later ≡ parcels_of c.in_flight =
     parcels-append (without_arrived k e c.in_flight) (in_flight_from k x.out.send)
-    ∙ ap (λ ps. parcels_of (without_arrived k e c.in_flight) ++ ps) (none_handed k x.out.send p.sent)
+    ∙ ap (λ ps. parcels_of (without_arrived k e c.in_flight) ++ ps) handed
     ∙ append-nil (parcels_of (without_arrived k e c.in_flight)) ∙ takes.parcels in
     let effects : effects_on_way later ≡ effects_on_way c.in_flight =
     flat_map-append (λ (f : InFlight). effects_by f.message) (without_arrived k e c.in_flight) (in_flight_from k x.out.send)
-    ∙ ap (λ es. effects_on_way (without_arrived k e c.in_flight) ++ es) (none_applied k x.out.send p.sent)
+    ∙ ap (λ es. effects_on_way (without_arrived k e c.in_flight) ++ es) told
     ∙ append-nil (effects_on_way (without_arrived k e c.in_flight)) ∙ takes.effects in
     let records : records_of_all (slice_set c.servers k x.server) (parcels_of later) ≡ records_of_all c.servers (parcels_of c.in_flight) =
     ap (records_of_all (slice_set c.servers k x.server)) parcels
-    ∙ ap (with_parcels (parcels_of c.in_flight)) (same_records c.servers k s x.server empty at p.records) in
+    ∙ ap (with_parcels (parcels_of c.in_flight)) (same_records c.servers k s x.server empty at still) in
     ap (λ es. held_with es (records_of_all (slice_set c.servers k x.server) (parcels_of later))) effects
     ∙ ap (held_with (effects_on_way c.in_flight)) records
+
+pub same_space : (c : Cluster) (k : ℕ) (e : ServerEvent) (s : Server) (x : Stepped) → slice_get c.servers k ≡ Some s → TakesNothing k e c
+    → IsPathStep s x → held_by (after_step k e x c) ≡ held_by c
+same_space c k e s x at takes p =
+    space_still c k e s x at takes p.records (none_handed k x.out.send p.sent) (none_applied k x.out.send p.sent)
 
 -- ## The leases
 
@@ -133,15 +140,21 @@ stays_true c k s x h at records e l i =
     (keeps_same s x.server l records (ap (λ (t : PathTables). t.held) e) (ap (λ (t : PathTables). t.frozen) e))
     (h.truth s (In-got c.servers k s at) l (subst (λ (t : PathTables). In l t.issued) e i))
 
--- where they are, all are
+-- where they are, and what all hold together is as it was, all are true
+pub same_space_true : (c : Cluster) (k : ℕ) (e : ServerEvent) (x : Stepped) → PathsHold c → held_by (after_step k e x c) ≡ held_by c
+    → (after_step k e x c).journal ≡ c.journal → KeepsTrue c x
+    → (t : Server) → In t (after_step k e x c).servers → (l : PathLease) → In l t.paths.issued
+    → IsTruePath (held_by (after_step k e x c)) (after_step k e x c).journal t l
+same_space_true c k e x h space journal own =
+    let dirs : (f : List ℕ) → made c.journal f ≡ Some Dir → made (after_step k e x c).journal f ≡ Some Dir = λ f d. ap (λ j. made j f) journal ∙ d in
+    all_true c k e x h (λ f on. ap (λ m. dir_here m f) space) dirs
+    (λ l i. true_alike (held_by c) (held_by (after_step k e x c)) c.journal (after_step k e x c).journal x.server x.server l
+    (λ f m. ap (λ m. dir_here m f) space) dirs (keeps_same x.server x.server l refl refl refl) (own l i))
+
 pub path_step_true : (c : Cluster) (k : ℕ) (e : ServerEvent) (s : Server) (x : Stepped) → PathsHold c → slice_get c.servers k ≡ Some s
     → TakesNothing k e c → IsPathStep s x → KeepsTrue c x
     → (t : Server) → In t (after_step k e x c).servers → (l : PathLease) → In l t.paths.issued
     → IsTruePath (held_by (after_step k e x c)) (after_step k e x c).journal t l
 path_step_true c k e s x h at takes step own =
-    let space : held_by (after_step k e x c) ≡ held_by c = same_space c k e s x at takes step in
-    let journal : (after_step k e x c).journal ≡ c.journal = ap (λ xs. c.journal ++ xs) step.admitted ∙ append-nil c.journal in
-    let dirs : (f : List ℕ) → made c.journal f ≡ Some Dir → made (after_step k e x c).journal f ≡ Some Dir = λ f d. ap (λ j. made j f) journal ∙ d in
-    all_true c k e x h (λ f on. ap (λ m. dir_here m f) space) dirs
-    (λ l i. true_alike (held_by c) (held_by (after_step k e x c)) c.journal (after_step k e x c).journal x.server x.server l
-    (λ f m. ap (λ m. dir_here m f) space) dirs (keeps_same x.server x.server l refl refl refl) (own l i))
+    same_space_true c k e x h (same_space c k e s x at takes step)
+    (ap (λ xs. c.journal ++ xs) step.admitted ∙ append-nil c.journal) own

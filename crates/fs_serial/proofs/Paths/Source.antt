@@ -34,7 +34,7 @@ use Rattle.fs_txn.specs.Parts.{led_files, part_at, parts_of, source_of, uses_on}
 use Rattle.fs_txn.specs.Ready.{agreed_of}
 use Rattle.fs_txn.specs.Stages.{Wanted}
 use Rattle.fs_txn.specs.declared.leading.Leading.{Leading}
-use Rattle.fs_txn.specs.declared.mode.Mode2.TheVariants.{Plain, Freeze}
+use Rattle.fs_txn.specs.declared.mode.Mode2.TheVariants.{Freeze}
 use Rattle.fs_txn.proofs.Keys.{kept_in}
 use Rattle.fs_view.specs.Gone.{known_with}
 use Rattle.fs_view.specs.Walk.{Known, always}
@@ -156,7 +156,7 @@ module _ (skew greatest : ℕ) (c : Cluster) (h : ClusterHolds skew greatest c) 
     module _ (source : p.file ≡ source_of d.entry.op) where
       uses_are : p.uses ≡ uses_on (source_of d.entry.op) d.entry.uses
       uses_are =
-          let q = of_map (part_at Plain d.entry.op d.file d.entry.uses) (led_files d.entry.op d.file) n p
+          let q = of_map (part_at l.leader.mode d.entry.op d.file d.entry.uses) (led_files d.entry.op d.file) n p
           (ap (λ ps. slice_get ps n) (sym leads.leader.parts) ∙ part) in
           ap (λ (x : Part). x.uses) q.1.1 ∙ ap (λ f. uses_on f d.entry.uses) (sym (ap (λ (x : Part). x.file) q.1.1) ∙ source)
 
@@ -170,7 +170,7 @@ module _ (skew greatest : ℕ) (c : Cluster) (h : ClusterHolds skew greatest c) 
           (kept_in (λ (x : Use). same (file_of x.field) (source_of d.entry.op)) u.used d.entry.uses u.among on) in
           ap (λ f. is_mine t (file_of f)) (sym u.field) ∙ manages u.used among
 
-      module _ (kept : FilesKept c h.led) (freeze : p.freeze ≡ Some d.file) where
+      module _ (kept : FilesKept c) (freeze : p.freeze ≡ Some d.file) where
         source_kept : IsKeptThere c d.file (source_of d.entry.op)
         source_kept =
             let held : RecordMap = held_seen c in
@@ -193,7 +193,7 @@ module _ (skew greatest : ℕ) (c : Cluster) (h : ClusterHolds skew greatest c) 
             }
 
   -- in a transaction that freezes
-  frozen_source : FilesKept c h.led → (uses : List Use) → l.leader.parts ≡ parts_of l.leader.op l.leader.file uses Freeze
+  frozen_source : FilesKept c → (uses : List Use) → l.leader.parts ≡ parts_of l.leader.op l.leader.file uses Freeze
       → IsKeptThere c l.leader.file (source_of l.leader.op)
   frozen_source kept uses parts =
       let o : Op = d.entry.op in

@@ -5,7 +5,7 @@ use Rattle.std.specs.FinMap.{get}
 use Rattle.std.specs.List.{flat_map, list_any}
 use Rattle.fs_ident.specs.Ident.{same}
 use Rattle.fs_ident.specs.In.{In}
-use Rattle.fs_ident.specs.declared.kind.Kind.TheVariants.{Dir}
+use Rattle.fs_ident.specs.declared.kind.Kind.TheVariants.{File, Dir}
 use Rattle.fs_ident.proofs.Standing.{In-front, In-got, In-map, In-mapped}
 use Rattle.fs_field.specs.After.{changed_file}
 use Rattle.fs_field.specs.declared.effect.Effect.{Effect}
@@ -23,8 +23,9 @@ use Rattle.fs_txn.specs.Decided.{AreDecided, IsDecided}
 use Rattle.fs_txn.specs.Grants.{Decided, IsBare, effects_in}
 use Rattle.fs_txn.specs.Leading.{said_by}
 use Rattle.fs_txn.specs.Ready.{agreed_of}
-use Rattle.fs_txn.specs.Stages.{Key, Wanted, word_to}
+use Rattle.fs_txn.specs.Stages.{Key, word_to}
 use Rattle.fs_txn.specs.Stages.Word.{Decide}
+use Rattle.fs_txn.proofs.Keys.{key_is}
 use Rattle.fs_serial.specs.Cluster.{Cluster, parcels_of}
 use Rattle.fs_serial.specs.Decided.{AllDecidedStand}
 use Rattle.fs_serial.specs.Fresh.{made}
@@ -33,7 +34,7 @@ use Rattle.fs_serial.specs.PathLaws.{WhatPathsRestOn}
 use Rattle.fs_serial.specs.Paths.{has_record, is_kept}
 use Rattle.fs_serial.specs.Runs.{held_by, records_in}
 use Rattle.fs_serial.specs.Seen.{ClusterHolds, with_all}
-use Rattle.fs_serial.specs.Words.{decided_in, said_at, telling_of}
+use Rattle.fs_serial.specs.Words.{decided_in, key_of, said_at, telling_of}
 use Rattle.fs_serial.proofs.DecidedEffects.Deciding as deciding
 use Rattle.fs_serial.proofs.DecidedEffects.GuardsAgain.{decided_again}
 use Rattle.fs_serial.proofs.DecidedEffects.HeldSeen.{held_same, held_seen}
@@ -117,20 +118,24 @@ module _ (skew greatest : ℕ) (c : Cluster) (h : ClusterHolds skew greatest c) 
   are_decided : AreDecided way
   are_decided e i = let t = on_way e i in subst IsDecided t.is (decided_again c h.led t.decided t.stands)
 
-  module _ (kept : FilesKept c h.led) where
-    abbrev part_of : Key → Part
-    part_of key = (h.led.parts key).part
+  -- the part that is told it
+  abbrev ready_for : (e : Effect) (t : IsOnWay e) → HasReady c.servers t.key t.at (h.led.parts t.key)
+  ready_for e t = ready c h.led t.key t.at t.effects t.word
+
+  module _ (kept : FilesKept c) where
+    abbrev part_of : (e : Effect) → IsOnWay e → Part
+    part_of e t = ((ready_for e t).part).part
 
     -- the server that manages the file of the effect keeps what its part keeps
     keeps : (e : Effect) (t : IsOnWay e) (s : Server) (f : List ℕ) → In s c.servers → is_mine s (changed_file e) ≡ true
-        → (part_of t.key).freeze ≡ Some f → is_kept s f ≡ true
+        → (part_of e t).freeze ≡ Some f → is_kept s f ≡ true
     keeps e t s f i mine freeze =
-        let r : HasReady c.servers t.key t.at (h.led.parts t.key) = ready c h.led t.key t.at t.effects t.word in
+        let r : HasReady c.servers t.key t.at (h.led.parts t.key) = ready_for e t in
         let there : In r.server c.servers = In-got c.servers t.at r.server r.there in
         let said : In (agreed_of r.part) (said_at r.server) =
         In-front (agreed_of r.part) (map agreed_of r.server.prepared) (flat_map (said_by r.server.me) r.server.leading)
         (In-mapped agreed_of r.part r.server.prepared r.among) in
-        let frozen = kept.here r.server there (agreed_of r.part) f said (ap (λ (w : Wanted). w.part.freeze) r.wanted ∙ freeze) in
+        let frozen = kept.here r.server there (agreed_of r.part) f said freeze in
         subst (λ x. is_kept x f ≡ true)
         (one_home r.server s (changed_file e) there i (mine_of c h.led t.key t.at t.effects t.word h.places e t.among) mine)
         (kept_among f (agreed_of r.part).key.txn r.server.paths.frozen frozen)
@@ -141,25 +146,38 @@ module _ (skew greatest : ℕ) (c : Cluster) (h : ClusterHolds skew greatest c) 
       here : In s c.servers
       here = In-got c.servers k s at
 
+      no_file : made c.journal f ≡ Some File → ⊥
+      no_file is = let wrong : Some File ≡ Some Dir = sym is ∙ dir in absurd (cc wrong)
+
       -- no part keeps it on whose file an effect is on its way here
-      not_frozen : (e : Effect) (t : IsOnWay e) → is_mine s (changed_file e) ≡ true → (part_of t.key).freeze ≡ Some f → ⊥
+      not_frozen : (e : Effect) (t : IsOnWay e) → is_mine s (changed_file e) ≡ true → (part_of e t).freeze ≡ Some f → ⊥
       not_frozen e t mine freeze = let wrong : true ≡ false = sym (keeps e t s f here mine freeze) ∙ free in absurd (cc wrong)
 
-      kept_for : (e : Effect) (t : IsOnWay e) → IsKeptFor (records_in c) c.journal (part_of t.key) e
-      kept_for e t = kept.told t.key t.at t.effects t.word e t.among
+      kept_for : (e : Effect) (t : IsOnWay e) → IsKeptFor (records_in c) c.journal (part_of e t) e
+      kept_for e t =
+          let r : HasReady c.servers t.key t.at (h.led.parts t.key) = ready_for e t in
+          let its : key_of (r.part).txn (r.part).number ≡ t.key = key_is (key_of (r.part).txn (r.part).number) t.key r.its in
+          kept.told r.server (In-got c.servers t.at r.server r.there) r.part r.among t.at t.effects
+          (subst (λ (z : Key). In (word_to z t.at (Decide t.effects)) (telling_of c.in_flight)) (sym its) t.word) e t.among
 
       -- ## Where it stands
 
       leaves_in : is_mine s f ≡ true → (e : Effect) → In e way → LeavesIn (dir_here (records_in c) f) f e
-      leaves_in mine e i = let t = on_way e i in by (part_of t.key) e (kept_for e t) (λ q. not_frozen e t (subst (λ x. is_mine s x ≡ true) (sym q) mine))
+      leaves_in mine e i =
+          let t = on_way e i in
+          by (part_of e t) e (kept_for e t) (λ q. not_frozen e t (subst (λ x. is_mine s x ≡ true) (sym q) mine))
         where
           by : (p : Part) (x : Effect) → IsKeptFor (records_in c) c.journal p x → (changed_file x ≡ f → p.freeze ≡ Some f → ⊥)
               → LeavesIn (dir_here (records_in c) f) f x
-          by p (SetParent file to name) q none = λ e. elim (q (ap (made c.journal) e ∙ dir)) as (λ _. dir_here (records_in c) f ≡ Some to) [
-            | inl r ↦ absurd (none e (r ∙ ap Some e))
-            | inr stays ↦ ap (dir_here (records_in c)) (sym e) ∙ stays
+          by p (SetParent file to name) q none = λ e. elim q as (λ _. dir_here (records_in c) f ≡ Some to) [
+            | inl is ↦ absurd (no_file (sym (ap (made c.journal) e) ∙ is))
+            | inr (inl r) ↦ absurd (none e (r ∙ ap Some e))
+            | inr (inr stays) ↦ ap (dir_here (records_in c)) (sym e) ∙ stays
           ]
-          by p (RemoveNode file) q none = λ e. none e (q (ap (made c.journal) e ∙ dir) ∙ ap Some e)
+          by p (RemoveNode file) q none = λ e. elim q as (λ _. ⊥) [
+            | inl is ↦ no_file (sym (ap (made c.journal) e) ∙ is)
+            | inr r ↦ none e (r ∙ ap Some e)
+          ]
           by p (SetChild a b z) q none = tt
           by p (NewNode a b z n) q none = tt
           by p (AddHandle a b z n) q none = tt
@@ -193,13 +211,17 @@ module _ (skew greatest : ℕ) (c : Cluster) (h : ClusterHolds skew greatest c) 
         leaves_name : (e : Effect) → In e way → LeavesName d named.name e
         leaves_name e i =
             let t = on_way e i in
-            by (part_of t.key) e (kept_for e t) (λ q. not_frozen e t (subst (λ x. is_mine s x ≡ true) (sym q) mine))
+            by (part_of e t) e (kept_for e t) (λ q. not_frozen e t (subst (λ x. is_mine s x ≡ true) (sym q) mine))
             (subst (IsBare (records_in c)) t.is (all.stand t.decided t.stands).bare)
           where
             by : (p : Part) (x : Effect) → IsKeptFor (records_in c) c.journal p x → (changed_file x ≡ d → p.freeze ≡ Some f → ⊥)
                 → IsBare (records_in c) x → LeavesName d named.name x
-            by p (SetChild to name None) q none bare = λ e n. none e (q f
-                (ap (λ y. child_of (node_of (get (records_in c) y)) name) e ∙ ap (child_of (node_of (get (records_in c) d))) n ∙ named.is) dir)
+            by p (SetChild to name None) q none bare = λ e n. elim (q f
+                (ap (λ y. child_of (node_of (get (records_in c) y)) name) e
+                ∙ ap (child_of (node_of (get (records_in c) d))) n ∙ named.is)) as (λ _. ⊥) [
+                  | inl is ↦ no_file is
+                  | inr r ↦ none e r
+                ]
             by p (SetChild to name (Some z)) q none bare = tt
             by p (RemoveNode file) q none bare = λ e.
                 let nothing : children_of (node_of (get (records_in c) d)) ≡ [] =

@@ -113,7 +113,7 @@ freeing_frees (end.Ended lease until now) f by o b = refl
 freeing_frees (end.Again w) f by o b = refl
 
 -- no part is told anything
-none_told : (e : LedEnd) (ns : List (ℕ × ℕ)) → flat_map (λ (n : ℕ × ℕ). told_effects (Abort e) n.0) ns ≡ []
+pub none_told : (e : LedEnd) (ns : List (ℕ × ℕ)) → flat_map (λ (n : ℕ × ℕ). told_effects (Abort e) n.0) ns ≡ []
 none_told e [] = refl
 none_told e (n ∷ ns) = none_told e ns
 
@@ -279,13 +279,13 @@ module _ (k skew greatest : ℕ) (c : Cluster) (s : Server) (at : slice_get c.se
 
   -- ## All of it
 
-  decided_still : decided_in after ≡ decided_in c
+  pub decided_still : decided_in after ≡ decided_in c
   decided_still =
       decides.told_then k skew greatest c s at h l there d
       ∙ ap (λ (es : List Effect). decided_in c ++ decided_for by es) (none_told e (elsewhere s.me l))
       ∙ append-nil (decided_in c)
 
-  records_still : records_of_all after.servers (parcels_of after.in_flight) ≡ records_of_all c.servers (parcels_of c.in_flight)
+  pub records_still : records_of_all after.servers (parcels_of after.in_flight) ≡ records_of_all c.servers (parcels_of c.in_flight)
   records_still =
       ap (records_of_all after.servers) (decides.parcels_then k skew greatest c s at h l there d)
       ∙ ap (with_parcels (parcels_of c.in_flight))

@@ -27,7 +27,7 @@ use Rattle.fs_record.specs.declared.led_end.LedEnd.{LedEnd}
 use Rattle.fs_record.specs.declared.led_end.LedEnd.TheVariants as led
 use Rattle.fs_server.specs.Concludes.{concludes, end_note, waits, goes_on}
 use Rattle.fs_server.specs.Counts.{after_own_vote, asked_at, comes_home, counts, counts_own, done_of, done_step, done_with, seeks, sent_on, vote_of, vote_step, voted, with_vote}
-use Rattle.fs_server.specs.Follows.{applies, decide_step, prepare_step, vote_here, votes}
+use Rattle.fs_server.specs.Follows.{applies, decide_step, prepare_step, recalls_for, vote_here, votes}
 use Rattle.fs_server.specs.Moves.{peer_step}
 use Rattle.fs_server.specs.Server.{Stepped, is_mine, strange}
 use Rattle.fs_server.specs.declared.state.Server.{Server}
@@ -193,13 +193,16 @@ goes_on_known n l sent s known =
 counted_known : (number : ℕ) (v : Vote) (l : Leading) (s : Server) → IsKnown (counts number v l s)
 counted_known number v l s = goes_on_known (note.Waits l.leader.txn) (with_vote number v l) [] s (λ e. absurd (cc))
 
+own_known : (number : ℕ) (p : Part) (v : Vote) (l : Leading) (s : Server) → IsKnown (counts_own number p v l s)
+own_known number p v l s =
+    goes_on_known (note.Waits l.leader.txn) (with_vote number v (asked_at number s.me l)) (recalls_for v s p)
+    (after_own_vote l.leader.txn p v s) (λ e. absurd (cc))
+
 home_known : (number : ℕ) (p : Part) (l : Leading) (s : Server) → IsKnown (comes_home number p l s)
 home_known number p l s =
     elim (is_mine s p.file) as
     (λ b. IsKnown (cond b (counts_own number p (vote_here s l.leader.session p) l s) (seeks number (server_of s.map p.file) p l s))) [
-      | true ↦
-          counted_known number (vote_here s l.leader.session p) (asked_at number s.me l)
-          (after_own_vote l.leader.txn p (vote_here s l.leader.session p) s)
+      | true ↦ own_known number p (vote_here s l.leader.session p) l s
       | false ↦ λ e. absurd (cc)
     ]
 

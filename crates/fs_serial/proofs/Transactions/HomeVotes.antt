@@ -32,14 +32,14 @@ use Rattle.fs_client.specs.Led.{is_led, lead_of}
 use Rattle.fs_client.specs.declared.led.Led.{Led as TheLed}
 use Rattle.fs_server.specs.Begins.{Round, first_round, leader_with, part_round, parts_in, round_of, rounds, txn_of}
 use Rattle.fs_server.specs.Follows.{vote_here}
-use Rattle.fs_server.specs.Leads.{changes_paths, is_over_paths, lead_refusal}
+use Rattle.fs_server.specs.Leads.{lead_refusal, stands_on_path, wants_path}
 use Rattle.fs_server.specs.Server.{is_mine}
 use Rattle.fs_server.specs.declared.event.ServerEvent.TheVariants.{FromClient}
 use Rattle.fs_server.specs.declared.state.Server.{Server}
 use Rattle.fs_server.proofs.Leading.{none_refuses}
 use Rattle.fs_txn.specs.Grants.{effects_in}
 use Rattle.fs_txn.specs.Parts.{part_at}
-use Rattle.fs_txn.specs.declared.mode.Mode2.TheVariants.{Plain}
+use Rattle.fs_txn.specs.declared.mode.Mode2.{Mode2}
 use Rattle.fs_serial.specs.Cluster.{Cluster, IsThere, parcels_of}
 use Rattle.fs_serial.specs.Joined.{records_of_all}
 use Rattle.fs_serial.specs.Led.{LedStands}
@@ -62,9 +62,10 @@ use Rattle.fs_serial.proofs.Transactions.RoundsLocks.{round_by}
 use Rattle.fs_serial.proofs.Transactions.Undecided.{asked_as, stands, up_asked}
 use Rattle.fs_serial.proofs.Transactions.YesesStand.{stand_in}
 
-pub home_part : (m : ToLead) (p : Part) → slice_get (parts_in m) 0 ≡ Some p → part_at Plain m.op m.file m.uses (home_of m.op) ≡ p
-home_part m p first =
-    let both : Some (part_at Plain m.op m.file m.uses (home_of m.op)) ≡ Some p = sym (first_part m) ∙ first in
+pub home_part : (mode : Mode2) (m : ToLead) (p : Part) → slice_get (parts_in mode m) 0 ≡ Some p
+    → part_at mode m.op m.file m.uses (home_of m.op) ≡ p
+home_part mode m p first =
+    let both : Some (part_at mode m.op m.file m.uses (home_of m.op)) ≡ Some p = sym (first_part mode m) ∙ first in
     cc
 
 -- ## The first vote
@@ -117,8 +118,8 @@ module _ (k skew greatest : ℕ) (c : Cluster) (s : Server) (at : slice_get c.se
           let wrong : None ≡ Some Dir = sym (ap kind_of gone) ∙ lives in
           absurd (cc wrong)
 
-  module _ (by : Session) (m : ToLead) (d : TheLed) (p : Part) (there : IsThere k (FromClient by (Lead m)) c)
-      (led : (c.lines by).client.led ≡ Some d) (first : slice_get (parts_in m) 0 ≡ Some p) where
+  module _ (mode : Mode2) (by : Session) (m : ToLead) (d : TheLed) (p : Part) (there : IsThere k (FromClient by (Lead m)) c)
+      (led : (c.lines by).client.led ≡ Some d) (first : slice_get (parts_in mode m) 0 ≡ Some p) where
     up : (ends_in c by).up ≡ Lead m ∷ []
     up = up_asked skew greatest c s here h by k m there
 
@@ -134,8 +135,8 @@ module _ (k skew greatest : ℕ) (c : Cluster) (s : Server) (at : slice_get c.se
     its_home : home_of d.entry.op ≡ home
     its_home = sym (ap (λ (x : ToLead). home_of x.op) asked)
 
-    its_part : part_at Plain m.op m.file m.uses home ≡ p
-    its_part = home_part m p first
+    its_part : part_at mode m.op m.file m.uses home ≡ p
+    its_part = home_part mode m p first
 
     abbrev used : Use
     used = led_stands.lives.used
@@ -162,7 +163,7 @@ module _ (k skew greatest : ℕ) (c : Cluster) (s : Server) (at : slice_get c.se
         sym (ap (value_of now.records by) on_home) ∙ told in
         lives_here home mine (cc)
 
-    over_dirs : (o : Op) (r : Reply) → is_led o r ≡ true → changes_paths s o ≡ false
+    over_dirs : (o : Op) (r : Reply) → is_led o r ≡ true → stands_on_path s o ≡ false
         → (vote_here s by p ≡ Yes → is_some (get s.records (home_of o)) ≡ true) → StaysIn o ⊎ (vote_here s by p ≡ Yes → ⊥)
     over_dirs (op.Rename sdir sname ddir dname) r l paths lives = by_dir (same sdir ddir) refl
       where
@@ -171,12 +172,12 @@ module _ (k skew greatest : ℕ) (c : Cluster) (s : Server) (at : slice_get c.se
         by_dir false t = inr (λ said.
             let wrong : true ≡ false = sym (ap (λ b. not b && is_some (get s.records ddir)) t ∙ lives said) ∙ paths in
             absurd (cc))
-    over_dirs (op.Delete dir name) r l paths lives = absurd (cc)
+    over_dirs (op.Delete dir name) r l paths lives = inl tt
     over_dirs o r l paths lives = absurd (cc)
 
-    -- where paths do not go over its file
-    module _ (free : is_over_paths s m.op m.kind ≡ false) where
-      by_kind : (kind : Kind) → d.kind ≡ kind → is_over_paths s d.entry.op kind ≡ false
+    -- where it stands on no path
+    module _ (free : wants_path s m.op m.kind ≡ false) where
+      by_kind : (kind : Kind) → d.kind ≡ kind → wants_path s d.entry.op kind ≡ false
           → (d.kind ≡ File) ⊎ (StaysIn d.entry.op ⊎ (vote_here s by p ≡ Yes → ⊥))
       by_kind File e over = inl e
       by_kind Dir e over = inr (over_dirs d.entry.op d.entry.reply led_stands.leads over
@@ -185,29 +186,29 @@ module _ (k skew greatest : ℕ) (c : Cluster) (s : Server) (at : slice_get c.se
       pub votes_over_paths : (d.kind ≡ File) ⊎ (StaysIn m.op ⊎ (vote_here s by p ≡ Yes → ⊥))
       votes_over_paths =
           subst (λ (x : ToLead). (d.kind ≡ File) ⊎ (StaysIn x.op ⊎ (vote_here s by p ≡ Yes → ⊥))) (sym asked)
-          (by_kind d.kind refl (ap (λ (x : ToLead). is_over_paths s x.op x.kind) (sym asked) ∙ free))
+          (by_kind d.kind refl (ap (λ (x : ToLead). wants_path s x.op x.kind) (sym asked) ∙ free))
 
 -- ## Its votes, as it begins
 
-pub home_votes : (k skew greatest : ℕ) (c : Cluster) (s : Server) → slice_get c.servers k ≡ Some s → ClusterHolds skew greatest c
+pub home_votes : (mode : Mode2) (k skew greatest : ℕ) (c : Cluster) (s : Server) → slice_get c.servers k ≡ Some s → ClusterHolds skew greatest c
     → (by : Session) (m : ToLead) (d : TheLed) (p : Part) → IsThere k (FromClient by (Lead m)) c → (c.lines by).client.led ≡ Some d
-    → slice_get (parts_in m) 0 ≡ Some p → lead_refusal s m ≡ None
+    → slice_get (parts_in mode m) 0 ≡ Some p → lead_refusal s m ≡ None
     → (d.kind ≡ File) ⊎ (StaysIn m.op ⊎ (vote_here s by p ≡ Yes → ⊥))
-home_votes k skew greatest c s at h by m d p there led first accepted =
-    votes_over_paths k skew greatest c s at h by m d p there led first (none_refuses s m accepted).1
+home_votes mode k skew greatest c s at h by m d p there led first accepted =
+    votes_over_paths k skew greatest c s at h mode by m d p there led first (none_refuses s m accepted).1
 
-pub begun_plain : (k skew greatest : ℕ) (c : Cluster) (s : Server) → slice_get c.servers k ≡ Some s → ClusterHolds skew greatest c
+pub begun_plain : (mode : Mode2) (k skew greatest : ℕ) (c : Cluster) (s : Server) → slice_get c.servers k ≡ Some s → ClusterHolds skew greatest c
     → (by : Session) (m : ToLead) (d : TheLed) → IsThere k (FromClient by (Lead m)) c → (c.lines by).client.led ≡ Some d
-    → lead_refusal s m ≡ None → IsPlain d (leader_with (txn_of s) by m (round_of by m s).votes)
-begun_plain k skew greatest c s at h by m d there led accepted =
-    let p : Part = part_at Plain m.op m.file m.uses (home_of m.op) in
-    let votes = (round_of by m s).votes in
+    → lead_refusal s m ≡ None → IsPlain d (leader_with mode (txn_of s) by m (round_of mode by m s).votes)
+begun_plain mode k skew greatest c s at h by m d there led accepted =
+    let p : Part = part_at mode m.op m.file m.uses (home_of m.op) in
+    let votes = (round_of mode by m s).votes in
     let first : slice_get votes 0 ≡ Some (Some (vote_here s by p)) =
-    home_vote (txn_of s) 0 by (parts_in m) (first_round s) p (first_part m) refl (none_refuses s m accepted).0 in
-    elim (home_votes k skew greatest c s at h by m d p there led (first_part m) accepted) as
-    (λ _. IsPlain d (leader_with (txn_of s) by m votes)) [
+    home_vote (txn_of s) 0 by (parts_in mode m) (first_round s) p (first_part mode m) refl (none_refuses s m accepted).0 in
+    elim (home_votes mode k skew greatest c s at h by m d p there led (first_part mode m) accepted) as
+    (λ _. IsPlain d (leader_with mode (txn_of s) by m votes)) [
       | inl e ↦ inl e
-      | inr q ↦ elim q as (λ _. IsPlain d (leader_with (txn_of s) by m votes)) [
+      | inr q ↦ elim q as (λ _. IsPlain d (leader_with mode (txn_of s) by m votes)) [
         | inl t ↦ inr (inl t)
         | inr against ↦ inr (inr (λ said.
             let same : Some (Some (vote_here s by p)) ≡ Some (Some Yes) = sym first ∙ said in

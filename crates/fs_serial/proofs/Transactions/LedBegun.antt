@@ -18,6 +18,7 @@ use Rattle.fs_msg.specs.declared.client_msg.ClientMsg.TheVariants.{Lead}
 use Rattle.fs_msg.specs.declared.lead.Lead.{Lead as ToLead}
 use Rattle.fs_msg.specs.declared.msg.Msg.{Msg}
 use Rattle.fs_msg.specs.declared.server_note.ServerNote.TheVariants as note
+use Rattle.fs_path.specs.Tables.{PathTables}
 use Rattle.fs_client.specs.Led.{lead_of}
 use Rattle.fs_client.specs.declared.led.Led.{Led}
 use Rattle.fs_server.specs.Begins.{Round, first_round, leader_with, parts_in, round_of, txn_of}
@@ -28,6 +29,7 @@ use Rattle.fs_server.specs.declared.event.ServerEvent.TheVariants.{FromClient}
 use Rattle.fs_server.specs.declared.state.Server.{Server}
 use Rattle.fs_server.proofs.Leading.{none_refuses}
 use Rattle.fs_model.specs.Asking.{home_of}
+use Rattle.fs_txn.specs.Deciding.{needs_path}
 use Rattle.fs_txn.specs.Leading.{ending_of, leading_of, said_by, stage_by, stage_in, with_leading}
 use Rattle.fs_txn.specs.Locks.{Agreed, IsKept, IsOf, LocksHold}
 use Rattle.fs_txn.specs.Parts.{part_at}
@@ -39,7 +41,7 @@ use Rattle.fs_txn.specs.Votes.{Votes}
 use Rattle.fs_txn.specs.declared.leading.Ending.{Ending}
 use Rattle.fs_txn.specs.declared.leading.Leading.{Leading}
 use Rattle.fs_txn.specs.declared.ready.Ready.{Ready}
-use Rattle.fs_txn.specs.declared.mode.Mode2.TheVariants.{Plain}
+use Rattle.fs_txn.specs.declared.mode.Mode2.{Mode2}
 use Rattle.fs_txn.proofs.Keys.{txn_is, txn_itself}
 use Rattle.fs_serial.specs.Cluster.{Cluster, Lines, after_step, in_flight_from, is_with, with_sent, without_first, without_question}
 use Rattle.fs_serial.specs.Leading.{IsEnded, IsLeading, IsLedBy, IsPlain, IsToldOf, LedHolds}
@@ -63,7 +65,7 @@ known_place i places v known =
       | Some to ↦ λ e k. (to, e)
     ] refl known
 
-module _ (k : ℕ) (c : Cluster) (s : Server) (at : slice_get c.servers k ≡ Some s) (by : Session) (m : ToLead) (held : LedHolds c)
+module _ (mode : Mode2) (k : ℕ) (c : Cluster) (s : Server) (at : slice_get c.servers k ≡ Some s) (by : Session) (m : ToLead) (held : LedHolds c)
     (me : s.me ≡ k) (numbered : (j : ℕ) (z : Server) → slice_get c.servers j ≡ Some z → z.me ≡ j)
     (ordered : is_ordered s.rows ≡ true) (new : (u : TxnNo) → IsOf (said_at s) u by ⊎ IsKept (kept_at s) u by → ⊥) where
   abbrev txn : TxnNo
@@ -116,26 +118,26 @@ module _ (k : ℕ) (c : Cluster) (s : Server) (at : slice_get c.servers k ≡ So
       ∙ ap₂ (stage_in y.part) (ap (λ n. leading_of n s.leading) is ∙ none_leads) (ap (λ n. ending_of n s.ending) is ∙ none_ends)
 
   abbrev parts : Key → Wanted
-  parts = parts_with k txn by m old own unknown
+  parts = parts_with mode k txn by m old own unknown
 
   parts_old : (y : Key) → same_txn y.txn txn ≡ false → parts y ≡ held.parts y
-  parts_old y e = ap (λ b. cond b (wanted_at k txn by m old own unknown (slice_get (parts_in m) y.part) (held.parts y)) (held.parts y)) e
+  parts_old y e = ap (λ b. cond b (wanted_at mode k txn by m old own unknown (slice_get (parts_in mode m) y.part) (held.parts y)) (held.parts y)) e
 
-  parts_new : (y : Key) (p : Part) → same_txn y.txn txn ≡ true → slice_get (parts_in m) y.part ≡ Some p
+  parts_new : (y : Key) (p : Part) → same_txn y.txn txn ≡ true → slice_get (parts_in mode m) y.part ≡ Some p
       → parts y ≡ (let w : Wanted = record { session = by; part = p } in w)
   parts_new y p e part =
-      ap (λ b. cond b (wanted_at k txn by m old own unknown (slice_get (parts_in m) y.part) (held.parts y)) (held.parts y)) e
-      ∙ ap (λ o. wanted_at k txn by m old own unknown o (held.parts y)) part
+      ap (λ b. cond b (wanted_at mode k txn by m old own unknown (slice_get (parts_in mode m) y.part) (held.parts y)) (held.parts y)) e
+      ∙ ap (λ o. wanted_at mode k txn by m old own unknown o (held.parts y)) part
 
   -- ## With these votes and rows
 
-  module _ (votes : Votes) (places : List ℕ) (rows : List Row) (lines : Session → Lines)
+  module _ (votes : Votes) (places : List ℕ) (rows : List Row) (paths : PathTables) (lines : Session → Lines)
       (clients : (y : Session) → (lines y).client ≡ (c.lines y).client) where
     abbrev l : Leading
-    l = record { leader = leader_with txn by m votes; at = places }
+    l = record { leader = leader_with mode txn by m votes; at = places }
 
     abbrev t : Server
-    t = record s { txns = s.txns + 1; rows = rows; leading = with_leading l s.leading }
+    t = record s { txns = s.txns + 1; rows = rows; leading = with_leading l s.leading; paths = paths }
 
     abbrev servers : List Server
     servers = slice_set c.servers k t
@@ -187,7 +189,7 @@ module _ (k : ℕ) (c : Cluster) (s : Server) (at : slice_get c.servers k ≡ So
         each_after (λ z. (x : Ready) → In x z.prepared → find (is_part x.txn x.number) z.prepared ≡ Some x) c.servers k t held.ready
         (held.ready s here) z i
 
-    stages_after : (y : Key) → stage_of_key servers y ≡ stages_with k txn by m old own unknown votes places y
+    stages_after : (y : Key) → stage_of_key servers y ≡ stages_with mode k txn by m old own unknown votes places y
     stages_after y = by_txn (same_txn y.txn txn) refl
       where
         by_server : same_txn y.txn txn ≡ false → (b : Bool) → (y.txn.server == k) ≡ b → stage_of_key servers y ≡ stage_of_key c.servers y
@@ -214,12 +216,12 @@ module _ (k : ℕ) (c : Cluster) (s : Server) (at : slice_get c.servers k ≡ So
     stage_old y e =
         stages_after y ∙ ap (λ b. cond b (stage_by (slice_get places y.part) (slice_get votes y.part)) (stage_of_key c.servers y)) e
 
-    module _ (all_places : length places ≡ length (parts_in m)) where
+    module _ (all_places : length places ≡ length (parts_in mode m)) where
       new_part : (y : Key) → same_txn y.txn txn ≡ true → stage_of_key servers y ≢ Unknown
-          → (p : Part) × (slice_get (parts_in m) y.part ≡ Some p)
+          → (p : Part) × (slice_get (parts_in mode m) y.part ≡ Some p)
       new_part y e known =
           let q = known_place y.part places (slice_get votes y.part) (λ u. known (stage_new y e ∙ u)) in
-          in_range places (parts_in m) y.part q.0 all_places q.1
+          in_range places (parts_in mode m) y.part q.0 all_places q.1
 
       files_after : FilesApart parts (stage_of_key servers)
       files_after a b one two p q = by_txn (same_txn a.txn txn) refl
@@ -230,7 +232,7 @@ module _ (k : ℕ) (c : Cluster) (s : Server) (at : slice_get c.servers k ≡ So
               let v = new_part a e p in
               let w = new_part b f q in
               ap₂ (λ (x y : Wanted). same x.part.file y.part.file) (parts_new a v.0 e v.1) (parts_new b w.0 f w.1)
-              ∙ parts_apart m a.part b.part v.0 w.0 two v.1 w.1
+              ∙ parts_apart mode m a.part b.part v.0 w.0 two v.1 w.1
           by_txn false e =
               let f : same_txn b.txn txn ≡ false = ap (λ n. same_txn n txn) (sym one) ∙ e in
               ap₂ (λ (x y : Wanted). same x.part.file y.part.file) (parts_old a e) (parts_old b f)
@@ -297,9 +299,9 @@ module _ (k : ℕ) (c : Cluster) (s : Server) (at : slice_get c.servers k ≡ So
 
     -- ## Its session waits
 
-    module _ (all_votes : length votes ≡ length (parts_in m)) (all_places : length places ≡ length (parts_in m))
+    module _ (all_votes : length votes ≡ length (parts_in mode m)) (all_places : length places ≡ length (parts_in mode m))
         (home : slice_get places 0 ≡ Some s.me) (d : Led) (client : IsLedBy c.lines by k d) (asks : m ≡ lead_of d)
-        (plain : IsPlain d l.leader) where
+        (plain : IsPlain d l.leader) (stands : needs_path mode m.op ≡ false) where
       new_leads : IsLeading lines t parts l
       new_leads = record {
         own = refl;
@@ -316,8 +318,8 @@ module _ (k : ℕ) (c : Cluster) (s : Server) (at : slice_get c.servers k ≡ So
           number = ap (λ (z : ToLead). z.n) asks;
           op = ap (λ (z : ToLead). z.op) asks;
           file = ap (λ (z : ToLead). z.file) asks;
-          parts = ap parts_in asks;
-          mode = refl;
+          parts = ap (parts_in mode) asks;
+          mode = stands;
         };
         plain = plain;
       }
@@ -336,10 +338,10 @@ module _ (k : ℕ) (c : Cluster) (s : Server) (at : slice_get c.servers k ≡ So
   -- ## All parts
 
   abbrev round : Round
-  round = round_of by m s
+  round = round_of mode by m s
 
   abbrev begun : Leading
-  begun = record { leader = leader_with txn by m round.votes; at = round.at }
+  begun = record { leader = leader_with mode txn by m round.votes; at = round.at }
 
   abbrev server : Server
   server = round.server
@@ -351,16 +353,16 @@ module _ (k : ℕ) (c : Cluster) (s : Server) (at : slice_get c.servers k ≡ So
   after = after_step k (FromClient by (Lead m)) x c
 
   abbrev with_rows : Server
-  with_rows = record s { txns = s.txns + 1; rows = server.rows }
+  with_rows = record s { txns = s.txns + 1; rows = server.rows; paths = server.paths }
 
   left : server ≡ with_rows
-  left = rounds_server txn 0 by (parts_in m) (first_round s)
+  left = rounds_server txn 0 by (parts_in mode m) (first_round s)
 
-  all_parts : (i : ℕ) (p : Part) → slice_get (parts_in m) i ≡ Some p → slice_get (parts_in m) (0 + i) ≡ Some p
-  all_parts i p e = subst (λ n. slice_get (parts_in m) n ≡ Some p) (let n : i ≡ 0 + i = omega arith in n) e
+  all_parts : (i : ℕ) (p : Part) → slice_get (parts_in mode m) i ≡ Some p → slice_get (parts_in mode m) (0 + i) ≡ Some p
+  all_parts i p e = subst (λ n. slice_get (parts_in mode m) n ≡ Some p) (let n : i ≡ 0 + i = omega arith in n) e
 
-  locked : LocksSoFar txn by m s.me (said_at s) (kept_at s) new round
-  locked = rounds_locked txn by m s.me (said_at s) (kept_at s) new (parts_in m) 0 (first_round s) all_parts refl refl refl
+  locked : LocksSoFar mode txn by m s.me (said_at s) (kept_at s) new round
+  locked = rounds_locked mode txn by m s.me (said_at s) (kept_at s) new (parts_in mode m) 0 (first_round s) all_parts refl refl refl
       (record {
         ordered = ordered;
         locks = subst (λ ys. LocksHold s.rows ys (kept_at s)) (sym (append-nil (said_at s)))
@@ -368,8 +370,8 @@ module _ (k : ℕ) (c : Cluster) (s : Server) (at : slice_get c.servers k ≡ So
       })
 
   own_locks : (lines : Session → Lines) (clients : (y : Session) → (lines y).client ≡ (c.lines y).client)
-      → LocksHold server.rows (said_at (t round.votes round.at server.rows lines clients)) (kept_at s)
-  own_locks lines clients = locks_then round.votes round.at server.rows lines clients locked.locks
+      → LocksHold server.rows (said_at (t round.votes round.at server.rows server.paths lines clients)) (kept_at s)
+  own_locks lines clients = locks_then round.votes round.at server.rows server.paths lines clients locked.locks
 
   pub locks_begun : LocksHold server.rows (said_at x.server) (kept_at x.server)
   locks_begun =
@@ -378,7 +380,7 @@ module _ (k : ℕ) (c : Cluster) (s : Server) (at : slice_get c.servers k ≡ So
 
   asked_lines : with_sent k round.send (without_question k (FromClient by (Lead m)) c.lines)
       ≡ without_question k (FromClient by (Lead m)) c.lines
-  asked_lines = rounds_lines k txn 0 by (parts_in m) (first_round s) (without_question k (FromClient by (Lead m)) c.lines) refl
+  asked_lines = rounds_lines k txn 0 by (parts_in mode m) (first_round s) (without_question k (FromClient by (Lead m)) c.lines) refl
 
   same_clients : (y : Session) → (after.lines y).client ≡ (c.lines y).client
   same_clients y = ap (λ (ls : Session → Lines). (ls y).client) asked_lines
@@ -391,51 +393,51 @@ module _ (k : ℕ) (c : Cluster) (s : Server) (at : slice_get c.servers k ≡ So
       ] refl
 
   module _ (d : Led) (client : IsLedBy c.lines by k d) (asks : m ≡ lead_of d) (accepted : lead_refusal s m ≡ None)
-      (plain : IsPlain d begun.leader) where
-    all_places : length round.at ≡ length (parts_in m)
+      (plain : IsPlain d begun.leader) (stands : needs_path mode m.op ≡ false) where
+    all_places : length round.at ≡ length (parts_in mode m)
     all_places =
-        rounds_at txn 0 by (parts_in m) (first_round s) ∙ (let n : 0 + length (parts_in m) ≡ length (parts_in m) = omega arith in n)
+        rounds_at txn 0 by (parts_in mode m) (first_round s) ∙ (let n : 0 + length (parts_in mode m) ≡ length (parts_in mode m) = omega arith in n)
 
-    all_votes : length round.votes ≡ length (parts_in m)
+    all_votes : length round.votes ≡ length (parts_in mode m)
     all_votes =
-        rounds_votes txn 0 by (parts_in m) (first_round s) ∙ (let n : 0 + length (parts_in m) ≡ length (parts_in m) = omega arith in n)
+        rounds_votes txn 0 by (parts_in mode m) (first_round s) ∙ (let n : 0 + length (parts_in mode m) ≡ length (parts_in mode m) = omega arith in n)
 
     home : slice_get round.at 0 ≡ Some s.me
-    home = rounds_home txn 0 by (parts_in m) (first_round s) (part_at Plain m.op m.file m.uses (home_of m.op)) (first_part m) refl
+    home = rounds_home txn 0 by (parts_in mode m) (first_round s) (part_at mode m.op m.file m.uses (home_of m.op)) (first_part mode m) refl
         (none_refuses s m accepted).0
 
     undecided : NoDecision k round.send
-    undecided = rounds_undecided k txn 0 by (parts_in m) (first_round s) (λ o to es i. absurd i)
+    undecided = rounds_undecided k txn 0 by (parts_in mode m) (first_round s) (λ o to es i. absurd i)
 
     stay : (r : Row) → In r s.rows → (u : TxnNo) → r.lock ≡ Some u → In r server.rows
-    stay r i u e = rounds_rows_stay txn 0 by (parts_in m) (first_round s) r u i e
+    stay r i u e = rounds_rows_stay txn 0 by (parts_in mode m) (first_round s) r u i e
 
     abbrev then : Cluster
     then = after_step k (FromClient by (Lead m)) (waits (note.Prepares txn) begun round.send with_rows) c
 
     stand : StagesHold (desks_of parts then)
-    stand = stand_alike (desks_with k txn by m old own unknown round) (desks_of parts then) (record {
+    stand = stand_alike (desks_with mode k txn by m old own unknown round) (desks_of parts then) (record {
       parts = λ y. refl;
-      stages = stages_after round.votes round.at server.rows after.lines same_clients;
-      prepared = prepared_set c.servers k s (t round.votes round.at server.rows after.lines same_clients) at refl;
+      stages = stages_after round.votes round.at server.rows server.paths after.lines same_clients;
+      prepared = prepared_set c.servers k s (t round.votes round.at server.rows server.paths after.lines same_clients) at refl;
       telling = telling_append c.in_flight (in_flight_from k round.send);
-    }) (rounds_stand k txn by m old own unknown (parts_in m) 0 (first_round s) all_parts refl refl me
-        (none_asked k txn by m old own unknown (first_round s).server held.stages))
+    }) (rounds_stand mode k txn by m old own unknown (parts_in mode m) 0 (first_round s) all_parts refl refl me
+        (none_asked mode k txn by m old own unknown (first_round s).server held.stages))
 
     led_then : LedHolds then
     led_then = record {
       parts = parts;
       stages = stand;
-      leading = leading_after round.votes round.at server.rows after.lines same_clients all_votes all_places home d client asks plain;
-      ending = ending_after round.votes round.at server.rows after.lines same_clients;
-      ready = ready_after round.votes round.at server.rows after.lines same_clients;
+      leading = leading_after round.votes round.at server.rows server.paths after.lines same_clients all_votes all_places home d client asks plain stands;
+      ending = ending_after round.votes round.at server.rows server.paths after.lines same_clients;
+      ready = ready_after round.votes round.at server.rows server.paths after.lines same_clients;
       locks = each_after (λ z. LocksHold z.rows (said_at z) (kept_at z)) c.servers k
-          (t round.votes round.at server.rows after.lines same_clients) held.locks (own_locks after.lines same_clients);
-      files = files_after round.votes round.at server.rows after.lines same_clients all_places;
+          (t round.votes round.at server.rows server.paths after.lines same_clients) held.locks (own_locks after.lines same_clients);
+      files = files_after round.votes round.at server.rows server.paths after.lines same_clients all_places;
       few = λ o to es i. held.few o to es
-          (told_before round.votes round.at server.rows after.lines same_clients round.send undecided stay o to es i);
-      told = λ o to es i. told_still round.votes round.at server.rows after.lines same_clients round.send undecided stay o to es
-          (told_before round.votes round.at server.rows after.lines same_clients round.send undecided stay o to es i);
+          (told_before round.votes round.at server.rows server.paths after.lines same_clients round.send undecided stay o to es i);
+      told = λ o to es i. told_still round.votes round.at server.rows server.paths after.lines same_clients round.send undecided stay o to es
+          (told_before round.votes round.at server.rows server.paths after.lines same_clients round.send undecided stay o to es i);
     }
 
     pub led_begun : LedHolds after

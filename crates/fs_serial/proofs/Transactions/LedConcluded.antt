@@ -350,7 +350,7 @@ module _ (k : ℕ) (c : Cluster) (s : Server) (at : slice_get c.servers k ≡ So
       off_if true e = sym (joined _ _ e (itself r.number)) ∙ none_pass (is_part t r.number) s.prepared none r i
       off_if false e = refl
 
-  said_then : without_txn t (said_at s) ≡ said_at y
+  pub said_then : without_txn t (said_at s) ≡ said_at y
   said_then =
       filter-append (λ (z : Agreed). not (same_txn z.key.txn t)) (map agreed_of s.prepared) (flat_map (said_by s.me) s.leading)
       ∙ ap₂ (λ a b. a ++ b)
@@ -396,7 +396,7 @@ module _ (k : ℕ) (c : Cluster) (s : Server) (at : slice_get c.servers k ≡ So
         | inr j ↦ kept_still z j
       ]) committed
 
-  none_said : (z : Agreed) → In z (said_at y) → same_txn z.key.txn t ≡ false
+  pub none_said : (z : Agreed) → In z (said_at y) → same_txn z.key.txn t ≡ false
   none_said z i = not-true (same_txn z.key.txn t)
       (passing (λ (a : Agreed). not (same_txn a.key.txn t)) (said_at s) z (subst (In z) (sym said_then) i))
 

@@ -22,9 +22,10 @@ use Rattle.fs_msg.specs.declared.peer_msg.PeerMsg.TheVariants as peer
 use Rattle.fs_msg.specs.declared.server_note.ServerNote.{ServerNote}
 use Rattle.fs_msg.specs.declared.server_note.ServerNote.TheVariants as note
 use Rattle.fs_msg.specs.declared.voted.Voted.{Voted as VotedMsg}
+use Rattle.fs_path.specs.Tables.{PathTables}
 use Rattle.fs_server.specs.Concludes.{waits}
-use Rattle.fs_server.specs.Counts.{after_own_vote, ask_for, asked_at, seeks, with_vote}
-use Rattle.fs_server.specs.Follows.{to_server, vote_here}
+use Rattle.fs_server.specs.Counts.{after_own_vote, ask_for, asked_at, paths_voted, seeks, with_vote}
+use Rattle.fs_server.specs.Follows.{recalls_for, to_server, vote_here}
 use Rattle.fs_server.specs.Server.{Stepped, is_mine}
 use Rattle.fs_server.specs.declared.state.Server.{Server}
 use Rattle.fs_txn.specs.Leading.{ending_of, leading_of, said_by, stage_by, stage_in, with_leading}
@@ -50,6 +51,7 @@ use Rattle.fs_serial.specs.Words.{Comes, desks_of, kept_at, key_of, prepared_in,
 use Rattle.fs_serial.proofs.Lists.SetAt.{get_here, get_other}
 use Rattle.fs_serial.proofs.Transactions.Desks.{FilesApart, IsHeard, IsVotedWord, each_after, ended_then, files_still, heard, leading_then, prepared_set, stage_at, stage_one, stage_was, stand_alike, taken_In, telling_append, told_then, voted_word}
 use Rattle.fs_serial.proofs.Transactions.OwnVotes.{counts_here, stage_counted, voted_stay, yes_stands}
+use Rattle.fs_serial.proofs.Transactions.Recalled.{recalls_answer_nothing, recalls_tell_nothing}
 use Rattle.fs_serial.proofs.Transactions.Tables.{in_with_leading, leading_other, leading_set, locks_alike}
 use Rattle.fs_serial.proofs.Transactions.YesLocks.{yes_locks}
 use Rattle.fs_serial.proofs.Transactions.YesParts.{ChangesOne, IsSaidHere, again_said, said_in, said_new, still_said}
@@ -121,12 +123,12 @@ module _ (k from : ℕ) (c : Cluster) (s : Server) (at : slice_get c.servers k �
   stage : stage_of_key c.servers key ≡ Asked from
   stage = said.stage ∙ ap Asked from_there
 
-  apart : (from == k) ≡ false
+  pub apart : (from == k) ≡ false
   apart = ap₂ (λ (x y : ℕ). x == y) (sym from_there) (sym own) ∙ said.elsewhere
 
   -- ## Its place
 
-  place : (slice_get l.at m.number ≡ Some from) × (slice_get l.leader.votes m.number ≡ Some None)
+  pub place : (slice_get l.at m.number ≡ Some from) × (slice_get l.leader.votes m.number ≡ Some None)
   place = is_asked (slice_get l.at m.number) (slice_get l.leader.votes m.number) from
       (sym (ap (λ o. stage_in m.number o (ending_of m.txn s.ending)) led) ∙ sym (stage_was c.servers k s s at key mine) ∙ stage)
 
@@ -149,12 +151,12 @@ module _ (k from : ℕ) (c : Cluster) (s : Server) (at : slice_get c.servers k �
 
   -- ## The transaction waits
 
-  module _ (votes : Votes) (places : List ℕ) (keeps : ChangesOne l m.number votes places) (rows : List Row) where
+  module _ (votes : Votes) (places : List ℕ) (keeps : ChangesOne l m.number votes places) (rows : List Row) (paths : PathTables) where
     abbrev new : Leading
     new = record l { leader = record l.leader { votes = votes }; at = places }
 
     abbrev t : Server
-    t = record s { leading = with_leading new s.leading; rows = rows }
+    t = record s { leading = with_leading new s.leading; rows = rows; paths = paths }
 
     abbrev servers : List Server
     servers = slice_set c.servers k t
@@ -251,14 +253,14 @@ module _ (k from : ℕ) (c : Cluster) (s : Server) (at : slice_get c.servers k �
     said_still : (y : Agreed) → In y (said_at s) → In y (said_at t)
     said_still = still_said s.me (map agreed_of s.prepared) s.leading l m.number votes places keeps place.1 among only_it
 
-    said_again : (y : Agreed) → In y (said_at t) → In y (said_at s) ⊎ ((m.number ≡ y.key.part) × IsSaidHere s.me new y)
+    pub said_again : (y : Agreed) → In y (said_at t) → In y (said_at s) ⊎ ((m.number ≡ y.key.part) × IsSaidHere s.me new y)
     said_again = again_said s.me (map agreed_of s.prepared) s.leading l m.number votes places keeps place.1 among only_it
 
     -- ## Together
 
     module _ (n : ServerNote) (sent : List (Peer × Msg)) (ws : List Told) (sends : telling_of (in_flight_from k sent) ≡ ws) where
       abbrev after : Cluster
-      after = then_of k from c (peer.Vote m) (waits n new sent (record s { rows = rows }))
+      after = then_of k from c (peer.Vote m) (waits n new sent (record s { rows = rows; paths = paths }))
 
       pub telling_after : telling_of after.in_flight ≡ taken word (telling_of c.in_flight) ++ ws
       telling_after =
@@ -298,11 +300,11 @@ module _ (k from : ℕ) (c : Cluster) (s : Server) (at : slice_get c.servers k �
   abbrev with_number : Vote → Votes
   with_number v = votes_after l.leader.votes m.number v
 
-  set_there : (v : Vote) → is_moved v ≡ false → slice_get (with_number v) m.number ≡ Some (Some v)
+  pub set_there : (v : Vote) → is_moved v ≡ false → slice_get (with_number v) m.number ≡ Some (Some v)
   set_there v counts =
       ap (λ vs. slice_get vs m.number) (votes_set l.leader.votes m.number v counts) ∙ get_here l.leader.votes m.number None (Some v) place.1
 
-  set_alone : (v : Vote) → is_moved v ≡ false → (places : List ℕ) → length places ≡ length l.at
+  pub set_alone : (v : Vote) → is_moved v ≡ false → (places : List ℕ) → length places ≡ length l.at
       → ((i : ℕ) → (m.number ≡ i → ⊥) → slice_get places i ≡ slice_get l.at i) → ChangesOne l m.number (with_number v) places
   set_alone v counts places all others = record {
     all_votes = ap length (votes_set l.leader.votes m.number v counts) ∙ length-set l.leader.votes m.number (Some v);
@@ -328,10 +330,10 @@ module _ (k from : ℕ) (c : Cluster) (s : Server) (at : slice_get c.servers k �
     counted_stage = ap₂ stage_by place.0 (set_there m.vote counts) ∙ sym (stage_counted from m.vote counts)
 
     abbrev counted : Server
-    counted = t (with_number m.vote) l.at counted_alone s.rows
+    counted = t (with_number m.vote) l.at counted_alone s.rows s.paths
 
     said_before_it : (y : Agreed) → In y (said_at counted) → In y (said_at s)
-    said_before_it y i = elim (said_again (with_number m.vote) l.at counted_alone s.rows y i) as (λ _. In y (said_at s)) [
+    said_before_it y i = elim (said_again (with_number m.vote) l.at counted_alone s.rows s.paths y i) as (λ _. In y (said_at s)) [
       | inl j ↦ j
       | inr q ↦
           let same : Some from ≡ Some s.me = sym place.0 ∙ ap (slice_get l.at) q.0 ∙ q.1.asked in
@@ -341,7 +343,7 @@ module _ (k from : ℕ) (c : Cluster) (s : Server) (at : slice_get c.servers k �
 
     pub led_counted : LedHolds (then_of k from c (peer.Vote m) (waits n (with_vote m.number m.vote l) [] s))
     led_counted =
-        together (with_number m.vote) l.at counted_alone s.rows n [] [] refl (stage_of from m.vote) counted_stage heard_desks
+        together (with_number m.vote) l.at counted_alone s.rows s.paths n [] [] refl (stage_of from m.vote) counted_stage heard_desks
         (record {
           parts = λ y. refl;
           stages = λ y. refl;
@@ -351,7 +353,7 @@ module _ (k from : ℕ) (c : Cluster) (s : Server) (at : slice_get c.servers k �
         })
         stages_voted refl (λ w i. absurd i) (λ r i u e. i)
         (locks_alike s.rows (said_at s) (said_at counted) (kept_at s) (kept_at counted) said_before_it
-        (said_still (with_number m.vote) l.at counted_alone s.rows) (λ z i. i) (held.locks s here))
+        (said_still (with_number m.vote) l.at counted_alone s.rows s.paths) (λ z i. i) (held.locks s here))
 
   -- ## It is at another server, or here
 
@@ -413,15 +415,15 @@ module _ (k from : ℕ) (c : Cluster) (s : Server) (at : slice_get c.servers k �
       elsewhere : (to == key.txn.server) ≡ false
       elsewhere = ap (λ x. to == x) (own ∙ sym me) ∙ off
 
-      sought_said : (y : Agreed) → In y (said_at (t l.leader.votes places sought_alone s.rows)) → In y (said_at s)
-      sought_said y i = elim (said_again l.leader.votes places sought_alone s.rows y i) as (λ _. In y (said_at s)) [
+      sought_said : (y : Agreed) → In y (said_at (t l.leader.votes places sought_alone s.rows s.paths)) → In y (said_at s)
+      sought_said y i = elim (said_again l.leader.votes places sought_alone s.rows s.paths y i) as (λ _. In y (said_at s)) [
         | inl j ↦ j
         | inr q ↦ let wrong : Some None ≡ Some (Some Yes) = sym place.1 ∙ ap (slice_get l.leader.votes) q.0 ∙ q.1.vote in absurd (cc wrong)
       ]
 
       pub led_sought : LedHolds (then_of k from c (peer.Vote m) (seeks m.number to p l s))
       led_sought =
-          together l.leader.votes places sought_alone s.rows (note.Seeks l.leader.txn to) asking (ask ∷ []) refl (Asked to) sought_stage
+          together l.leader.votes places sought_alone s.rows s.paths (note.Seeks l.leader.txn to) asking (ask ∷ []) refl (Asked to) sought_stage
           (after_ask key to (held.parts key) heard_desks)
           (record {
             parts = parts_still;
@@ -435,19 +437,22 @@ module _ (k from : ℕ) (c : Cluster) (s : Server) (at : slice_get c.servers k �
             | inr z ↦ z
           ])
           (λ r i u e. i)
-          (locks_alike s.rows (said_at s) (said_at (t l.leader.votes places sought_alone s.rows)) (kept_at s) (kept_at s) sought_said
-          (said_still l.leader.votes places sought_alone s.rows) (λ z i. i) (held.locks s here))
+          (locks_alike s.rows (said_at s) (said_at (t l.leader.votes places sought_alone s.rows s.paths)) (kept_at s) (kept_at s) sought_said
+          (said_still l.leader.votes places sought_alone s.rows s.paths) (λ z i. i) (held.locks s here))
 
     module _ (n : ServerNote) (ordered : is_ordered s.rows ≡ true) (is_here : is_mine s p.file ≡ true)
         (alone : (u : TxnNo) → IsOf (said_at s) u l.leader.session ⊎ IsKept (kept_at s) u l.leader.session → u ≡ l.leader.txn) where
       abbrev after_own : Vote → Stepped
-      after_own v = waits n (with_vote m.number v (asked_at m.number s.me l)) [] (after_own_vote l.leader.txn p v s)
+      after_own v = waits n (with_vote m.number v (asked_at m.number s.me l)) (recalls_for v s p) (after_own_vote l.leader.txn p v s)
 
       abbrev home : List ℕ
       home = slice_set l.at m.number s.me
 
       abbrev home_rows : Vote → List Row
       home_rows v = rows_voted v l.leader.txn p.uses s.rows
+
+      abbrev home_paths : Vote → PathTables
+      home_paths v = paths_voted v l.leader.txn p.freeze s.paths
 
       home_alone : (v : Vote) → is_moved v ≡ false → ChangesOne l m.number (with_number v) home
       home_alone v counts = set_alone v counts home (length-set l.at m.number s.me) (λ i off. get_other l.at m.number i s.me off)
@@ -459,22 +464,22 @@ module _ (k from : ℕ) (c : Cluster) (s : Server) (at : slice_get c.servers k �
           ∙ sym (stage_counted key.txn.server v counts)
 
       abbrev voted_new : (v : Vote) → is_moved v ≡ false → Leading
-      voted_new v counts = new (with_number v) home (home_alone v counts) (home_rows v)
+      voted_new v counts = new (with_number v) home (home_alone v counts) (home_rows v) (home_paths v)
 
       abbrev voted : (v : Vote) → is_moved v ≡ false → Server
-      voted v counts = t (with_number v) home (home_alone v counts) (home_rows v)
+      voted v counts = t (with_number v) home (home_alone v counts) (home_rows v) (home_paths v)
 
       -- a vote that is not Yes
       locks_no : (v : Vote) (counts : is_moved v ≡ false) → (v ≡ Yes → ⊥) → LocksHold s.rows (said_at (voted v counts)) (kept_at s)
       locks_no v counts refuses = locks_alike s.rows (said_at s) (said_at (voted v counts)) (kept_at s) (kept_at s)
-          (λ y i. elim (said_again (with_number v) home (home_alone v counts) (home_rows v) y i) as (λ _. In y (said_at s)) [
+          (λ y i. elim (said_again (with_number v) home (home_alone v counts) (home_rows v) (home_paths v) y i) as (λ _. In y (said_at s)) [
             | inl j ↦ j
             | inr q ↦
                 let same : Some (Some v) ≡ Some (Some Yes) = sym (set_there v counts) ∙ ap (slice_get (with_number v)) q.0 ∙ q.1.vote in
                 let wrong : v ≡ Yes = cc in
                 absurd (refuses wrong)
           ])
-          (said_still (with_number v) home (home_alone v counts) (home_rows v))
+          (said_still (with_number v) home (home_alone v counts) (home_rows v) (home_paths v))
           (λ z i. i) (held.locks s here)
 
       abbrev agreed_as : TxnNo → ℕ → Session → Part → Agreed
@@ -496,7 +501,7 @@ module _ (k from : ℕ) (c : Cluster) (s : Server) (at : slice_get c.servers k �
 
       locks_yes : vote_here s l.leader.session p ≡ Yes → LocksHold (home_rows Yes) (said_at (voted Yes refl)) (kept_at s)
       locks_yes says = locks_alike (home_rows Yes) (its_part ∷ said_at s) (said_at (voted Yes refl)) (kept_at s) (kept_at s)
-          (λ y i. elim (said_again (with_number Yes) home (home_alone Yes refl) (home_rows Yes) y i) as (λ _. In y (its_part ∷ said_at s)) [
+          (λ y i. elim (said_again (with_number Yes) home (home_alone Yes refl) (home_rows Yes) (home_paths Yes) y i) as (λ _. In y (its_part ∷ said_at s)) [
             | inl j ↦ inr j
             | inr q ↦ inl (is_its_part y q.0 q.1)
           ])
@@ -507,7 +512,7 @@ module _ (k from : ℕ) (c : Cluster) (s : Server) (at : slice_get c.servers k �
                 (said_new s.me (voted_new Yes refl) s.leading its_part
                 (said_in s.me (voted_new Yes refl) its_part
                 its_said)))
-            | inr j ↦ said_still (with_number Yes) home (home_alone Yes refl) (home_rows Yes) y j
+            | inr j ↦ said_still (with_number Yes) home (home_alone Yes refl) (home_rows Yes) (home_paths Yes) y j
           ])
           (λ z i. i)
           (yes_locks s.rows (said_at s) (kept_at s) its_part (held.locks s here) ordered (yes_stands s l.leader.session p is_here says)
@@ -524,7 +529,8 @@ module _ (k from : ℕ) (c : Cluster) (s : Server) (at : slice_get c.servers k �
       home_counted : (v : Vote) (counts : is_moved v ≡ false) → vote_here s l.leader.session p ≡ v
           → LedHolds (then_of k from c (peer.Vote m) (after_own v))
       home_counted v counts says =
-          together (with_number v) home (home_alone v counts) (home_rows v) n [] [] refl (stage_of key.txn.server v) (home_stage v counts)
+          together (with_number v) home (home_alone v counts) (home_rows v) (home_paths v) n (recalls_for v s p) []
+          (recalls_tell_nothing k v s p) (stage_of key.txn.server v) (home_stage v counts)
           (desk.after_own key (held.parts key) v heard_desks)
           (record {
             parts = parts_still;
@@ -532,7 +538,7 @@ module _ (k from : ℕ) (c : Cluster) (s : Server) (at : slice_get c.servers k �
             prepared = λ j y. refl;
             telling = append-nil (taken word (telling_of c.in_flight));
           })
-          (owns heard_desks key (held.parts key) v stages_voted unknown) refl (λ w i. absurd i)
+          (owns heard_desks key (held.parts key) v stages_voted unknown) (recalls_answer_nothing k v s p c.lines) (λ w i. absurd i)
           (λ r i u e. voted_stay v l.leader.txn p.uses s.rows r u i e)
           (locks_home v counts says)
 

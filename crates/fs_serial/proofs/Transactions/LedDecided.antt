@@ -148,7 +148,7 @@ module _ (k from : ℕ) (c : Cluster) (s : Server) (at : slice_get c.servers k �
       }) (decides d key k m.effects held.stages first)
 
   -- a decision that is told then was told before
-  told_before : (other : Key) (to : ℕ) (es : List Effect) → In (word_to other to (Decide es)) (telling_of then.in_flight)
+  pub told_before : (other : Key) (to : ℕ) (es : List Effect) → In (word_to other to (Decide es)) (telling_of then.in_flight)
       → In (word_to other to (Decide es)) (telling_of c.in_flight)
   told_before other to es i =
       In-more (word_to other to (Decide es)) (without_first (is_between m.txn.server k) (telling_of c.in_flight)) (word_from key k Done)
@@ -160,13 +160,13 @@ module _ (k from : ℕ) (c : Cluster) (s : Server) (at : slice_get c.servers k �
   -- ## Locks
 
   -- the parts that said Yes here of its own transactions are of others
-  own_others : (z : Agreed) → In z (flat_map (said_by s.me) s.leading) → same_txn z.key.txn key.txn ≡ false
+  pub own_others : (z : Agreed) → In z (flat_map (said_by s.me) s.leading) → same_txn z.key.txn key.txn ≡ false
   own_others z i =
       let q = In_some (said_by s.me) z s.leading i in
       let l = held.leading s among q.0 q.1.0 in
       not_its z.key.txn m.txn k (ap (λ (t : TxnNo). t.server) (said_its s.me q.0 z q.1.1).txn ∙ l.own ∙ me) elsewhere
 
-  said_then : without_part key (said_at s) ≡ said_at y
+  pub said_then : without_part key (said_at s) ≡ said_at y
   said_then =
       filter-append (λ (z : Agreed). not (same_key z.key key)) (map agreed_of s.prepared) (flat_map (said_by s.me) s.leading)
       ∙ ap (λ xs. xs ++ without_part key (flat_map (said_by s.me) s.leading)) (sym (left_so m.txn m.number s.prepared))

@@ -1,6 +1,6 @@
 -- A server is asked for a part and votes: all that holds of transactions stays.
 use Rattle.std.proofs.Common.{◌≡◌, ◌+◌, ◌≤◌, ℕ, true, false, List, [], ◌∷◌, ◌++◌, length, refl, sym, ap, ◌∙◌, subst, cond, arith}
-use Rattle.std.specs.Prelude.{Option, Some, None, is_some, option_map, slice_get}
+use Rattle.std.specs.Prelude.{Some, None, is_some, option_map, slice_get}
 use Rattle.std.specs.List.{find, flat_map}
 use Rattle.fs_ident.specs.In.{In}
 use Rattle.fs_ident.specs.declared.actor.Session.{Session}
@@ -15,7 +15,7 @@ use Rattle.fs_field.specs.declared.vote.Vote.TheVariants.{Yes, Ended, Moved, Pat
 use Rattle.fs_map.specs.Map.{longest}
 use Rattle.fs_msg.specs.declared.peer_msg.PeerMsg.TheVariants as peer
 use Rattle.fs_msg.specs.declared.prepare.Prepare.{Prepare as PrepareMsg}
-use Rattle.fs_server.specs.Follows.{after_vote, ready_of, vote_here, votes}
+use Rattle.fs_server.specs.Follows.{after_vote, path_in_the_way, ready_of, recalls_for, vote_here, votes}
 use Rattle.fs_server.specs.Server.{is_mine}
 use Rattle.fs_server.specs.Ships.{first_gone}
 use Rattle.fs_server.specs.declared.state.Server.{Server}
@@ -33,16 +33,18 @@ use Rattle.fs_txn.specs.declared.ready.Ready.{Ready}
 use Rattle.fs_txn.proofs.Keys.{key_is}
 use Rattle.fs_txn.proofs.Locking.{stays}
 use Rattle.fs_txn.proofs.Telling.{prepares}
-use Rattle.fs_serial.specs.Cluster.{Cluster, in_flight_from, is_between, without_first}
+use Rattle.fs_serial.specs.Cluster.{Cluster, Lines, in_flight_from, is_between, without_first}
 use Rattle.fs_serial.specs.Exchange.{due}
 use Rattle.fs_serial.specs.Leading.{IsEnded, IsLeading, LedHolds}
 use Rattle.fs_serial.specs.Owed.{ends_in}
 use Rattle.fs_serial.specs.Words.{Comes, desks_of, kept_at, key_of, prepared_in, ready_at, said_at, stage_of_key, telling_of, then_of, wanted_of}
+use Rattle.fs_serial.proofs.Lists.Journals.{none_mapped}
 use Rattle.fs_serial.proofs.Transactions.AwaitedWords.{IsPrepareHere, prepare_here}
 use Rattle.fs_serial.proofs.Transactions.Desks.{IsTakenWord, each_after, ended_still, files_still, heard_as, leading_still, prepared_one, prepared_set, stage_set, stand_alike, taken_In, telling_append, told_then}
 use Rattle.fs_serial.proofs.Transactions.OneOfSession.{one_txn, txns_of}
 use Rattle.fs_serial.proofs.Transactions.OwnersOfLocks.{lock_txn, part_txn, stands_in}
 use Rattle.fs_serial.proofs.Transactions.OwnVotes.{yes_stands}
+use Rattle.fs_serial.proofs.Transactions.Recalled.{recalls_answer_nothing, recalls_tell_nothing}
 use Rattle.fs_serial.proofs.Transactions.Tables.{found_front, locks_alike, part_last, part_other, said_more, said_no_less}
 use Rattle.fs_serial.proofs.Transactions.YesLocks.{yes_locks}
 
@@ -56,15 +58,12 @@ pub voted_yes : (s : Server) (by : Session) (p : Part) → vote_here s by p ≡ 
 voted_yes s by p h =
     let mine : is_mine s p.file ≡ true =
     elim (is_mine s p.file) as
-    (λ b. cond b (vote_by (first_gone s.rows by p.uses) None s.last) (moved_to (longest s.map p.file)) ≡ Yes → b ≡ true) [
+    (λ b. cond b (vote_by (first_gone s.rows by p.uses) (path_in_the_way s p.freeze) s.last) (moved_to (longest s.map p.file)) ≡ Yes
+    → b ≡ true) [
       | true ↦ λ e. refl
       | false ↦ λ e. absurd (cc)
     ] h in
     (mine, yes_stands s by p mine h)
-
-none_mapped : {X Y : Type 0} (f : X → Y) (o : Option X) → option_map f o ≡ None → o ≡ None
-none_mapped f None e = refl
-none_mapped f (Some x) e = absurd (cc)
 
 -- what a vote leaves as it is
 record IsSameBut (s t : Server) : Type 0 where
@@ -138,7 +137,25 @@ module _ (k from : ℕ) (c : Cluster) (s : Server) (at : slice_get c.servers k �
       telling_append (without_first (is_between from k) c.in_flight) (in_flight_from k (votes v from m s).out.send)
       ∙ ap (λ xs. xs ++ telling_of (in_flight_from k (votes v from m s).out.send)) heard_it.left
       ∙ ap (λ n. taken asks (telling_of c.in_flight) ++
-      (let w : Told = record { from = k; to = n; key = key; word = Voted v } in w) ∷ []) here.leader
+      (let w : Told = record { from = k; to = n; key = key; word = Voted v } in w)
+      ∷ telling_of (in_flight_from k (recalls_for v s m.part))) here.leader
+      ∙ ap (λ ws. taken asks (telling_of c.in_flight) ++ answer ∷ ws) (recalls_tell_nothing k v s m.part)
+
+  -- the clients get nothing
+  lines_after : after.lines ≡ c.lines
+  lines_after = recalls_answer_nothing k v s m.part c.lines
+
+  leads_after : (l : Leading) → In l t.leading → IsLeading after.lines t held.parts l
+  leads_after l i =
+      subst (λ (lines : Session → Lines). IsLeading lines t held.parts l) (sym lines_after)
+      (leading_still c.lines s t held.parts leaves.me leaves.txns leaves.leading leaves.ending l
+      (held.leading s s_there l (subst (In l) leaves.leading i)))
+
+  ends_after : (x : Ending) → In x t.ending → IsEnded after.lines t held.parts x
+  ends_after x i =
+      subst (λ (lines : Session → Lines). IsEnded lines t held.parts x) (sym lines_after)
+      (ended_still c.lines s t held.parts leaves.me leaves.txns leaves.leading leaves.ending x
+      (held.ending s s_there x (subst (In x) leaves.ending i)))
 
   stages_after : (y : Key) → stage_of_key after.servers y ≡ stage_of_key c.servers y
   stages_after y = stage_set c.servers k s t at leaves.leading leaves.ending y
@@ -224,12 +241,12 @@ module _ (k from : ℕ) (c : Cluster) (s : Server) (at : slice_get c.servers k �
     led_prepared = record {
       parts = held.parts;
       stages = stand_then;
-      leading = each_after (λ z. (l : Leading) → In l z.leading → IsLeading c.lines z held.parts l) c.servers k t held.leading
-          (λ l i. leading_still c.lines s t held.parts leaves.me leaves.txns leaves.leading leaves.ending l
-          (held.leading s s_there l (subst (In l) leaves.leading i)));
-      ending = each_after (λ z. (x : Ending) → In x z.ending → IsEnded c.lines z held.parts x) c.servers k t held.ending
-          (λ x i. ended_still c.lines s t held.parts leaves.me leaves.txns leaves.leading leaves.ending x
-          (held.ending s s_there x (subst (In x) leaves.ending i)));
+      leading = each_after (λ z. (l : Leading) → In l z.leading → IsLeading after.lines z held.parts l) c.servers k t
+          (λ z i l j. subst (λ (lines : Session → Lines). IsLeading lines z held.parts l) (sym lines_after) (held.leading z i l j))
+          leads_after;
+      ending = each_after (λ z. (x : Ending) → In x z.ending → IsEnded after.lines z held.parts x) c.servers k t
+          (λ z i x j. subst (λ (lines : Session → Lines). IsEnded lines z held.parts x) (sym lines_after) (held.ending z i x j))
+          ends_after;
       ready = each_after (λ z. (x : Ready) → In x z.prepared → find (is_part x.txn x.number) z.prepared ≡ Some x) c.servers k t held.ready
           (ready_by v);
       locks = each_after (λ z. LocksHold z.rows (said_at z) (kept_at z)) c.servers k t held.locks (locks_by v refl);

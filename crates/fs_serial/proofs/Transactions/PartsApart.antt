@@ -1,16 +1,24 @@
--- The parts of an operation: the first is that of its home, and no two are on one file.
-use Rattle.std.proofs.Common.{◌≡◌, ◌==◌, ℕ, zero, suc, true, false, List, [], ◌∷◌, ◌++◌, refl, sym, ap₂, ◌∙◌, subst, cond, inl, inr}
-use Rattle.std.specs.Prelude.{Some, slice_get}
+-- The parts of an operation: the first is that of its home, and no two are on one file. Their files and leases are the same in each mode.
+use Rattle.std.proofs.Common.{◌≡◌, ◌==◌, ℕ, zero, suc, true, false, List, [], ◌∷◌, ◌++◌, refl, sym, ap, ap₂, ◌∙◌, subst, cond, inl, inr}
+use Rattle.std.specs.Prelude.{map, Some, slice_get}
 use Rattle.std.specs.List.{list_any}
 use Rattle.std.proofs.lemmas.Bool.{eqb-false}
 use Rattle.fs_ident.specs.Ident.{same}
 use Rattle.fs_ident.proofs.Standing.{In-got, none_any}
+use Rattle.fs_ident.specs.declared.kind.Kind.{Kind}
+use Rattle.fs_ident.specs.declared.kind.Kind.TheVariants.{File, Dir}
 use Rattle.fs_field.specs.declared.used.Part.{Part}
+use Rattle.fs_field.specs.declared.used.Use.{Use}
 use Rattle.fs_model.specs.Asking.{home_of}
 use Rattle.fs_model.specs.declared.op.Op.{Op}
+use Rattle.fs_model.specs.declared.op.Op.TheVariants as op
 use Rattle.fs_msg.specs.declared.lead.Lead.{Lead as ToLead}
 use Rattle.fs_server.specs.Begins.{parts_in}
-use Rattle.fs_txn.specs.Parts.{led_files, part_at, source_of, with_file}
+use Rattle.fs_server.specs.Leads.{mode_of, uses_of, wants_path}
+use Rattle.fs_server.specs.declared.state.Server.{Server}
+use Rattle.fs_txn.specs.Deciding.{needs_path}
+use Rattle.fs_txn.specs.Parts.{led_files, part_at, source_of, uses_on, with_file}
+use Rattle.fs_txn.specs.declared.mode.Mode2.{Mode2}
 use Rattle.fs_txn.specs.declared.mode.Mode2.TheVariants.{Plain}
 use Rattle.fs_serial.proofs.Lists.ByPlace.{either_at, front_at, map_at, of_map}
 use Rattle.fs_serial.proofs.Lists.Journals.{same_symm}
@@ -53,14 +61,39 @@ with_first f fs h e =
 
 -- ## Parts
 
-pub first_part : (m : ToLead) → slice_get (parts_in m) 0 ≡ Some (part_at Plain m.op m.file m.uses (home_of m.op))
-first_part m = map_at (part_at Plain m.op m.file m.uses) (led_files m.op m.file) 0 (home_of m.op)
+pub first_part : (mode : Mode2) (m : ToLead) → slice_get (parts_in mode m) 0 ≡ Some (part_at mode m.op m.file m.uses (home_of m.op))
+first_part mode m = map_at (part_at mode m.op m.file m.uses) (led_files m.op m.file) 0 (home_of m.op)
     (with_first m.file (with_file (source_of m.op) (home_of m.op ∷ [])) (home_of m.op)
     (with_first (source_of m.op) (home_of m.op ∷ []) (home_of m.op) refl))
 
-pub parts_apart : (m : ToLead) (i j : ℕ) (p q : Part) → (i == j) ≡ false → slice_get (parts_in m) i ≡ Some p
-    → slice_get (parts_in m) j ≡ Some q → same p.file q.file ≡ false
-parts_apart m i j p q off a b =
-    let x = of_map (part_at Plain m.op m.file m.uses) (led_files m.op m.file) i p a in
-    let y = of_map (part_at Plain m.op m.file m.uses) (led_files m.op m.file) j q b in
+pub parts_apart : (mode : Mode2) (m : ToLead) (i j : ℕ) (p q : Part) → (i == j) ≡ false → slice_get (parts_in mode m) i ≡ Some p
+    → slice_get (parts_in mode m) j ≡ Some q → same p.file q.file ≡ false
+parts_apart mode m i j p q off a b =
+    let x = of_map (part_at mode m.op m.file m.uses) (led_files m.op m.file) i p a in
+    let y = of_map (part_at mode m.op m.file m.uses) (led_files m.op m.file) j q b in
     ap₂ (λ (v w : Part). same v.file w.file) x.1.1 y.1.1 ∙ led_apart m.op m.file i j x.0 y.0 off x.1.0 y.1.0
+
+-- ## In each mode
+
+pub part_any : (mode : Mode2) (o : Op) (file : List ℕ) (uses : List Use) (at : List ℕ)
+    → (part_at mode o file uses at).uses ≡ (part_at Plain o file uses at).uses
+part_any mode o file uses at = refl
+
+uses_alike : (mode : Mode2) (o : Op) (file : List ℕ) (uses : List Use) (fs : List (List ℕ))
+    → uses_of (map (part_at mode o file uses) fs) ≡ uses_of (map (part_at Plain o file uses) fs)
+uses_alike mode o file uses [] = refl
+uses_alike mode o file uses (f ∷ fs) = ap (λ us. uses_on f uses ++ us) (uses_alike mode o file uses fs)
+
+pub uses_any : (mode : Mode2) (m : ToLead) → uses_of (parts_in mode m) ≡ uses_of (parts_in Plain m)
+uses_any mode m = uses_alike mode m.op m.file m.uses (led_files m.op m.file)
+
+-- ## What the decision stands on
+
+needs_none : (o : Op) (kind : Kind) → needs_path (mode_of o kind) o ≡ false
+needs_none (op.Delete dir name) File = refl
+needs_none (op.Delete dir name) Dir = refl
+needs_none o kind = refl
+
+-- where it begins, it stands on no path
+pub mode_needs_none : (m : ToLead) (s : Server) → wants_path s m.op m.kind ≡ false → needs_path (mode_of m.op m.kind) m.op ≡ false
+mode_needs_none m s free = needs_none m.op m.kind

@@ -7,6 +7,7 @@ use Rattle.std.specs.List.{find}
 use Rattle.std.proofs.lemmas.Option.{slice_get_within}
 use Rattle.fs_ident.specs.In.{In}
 use Rattle.fs_ident.specs.declared.actor.LeaseNo.{LeaseNo}
+use Rattle.fs_ident.specs.declared.actor.PathNo.{PathNo}
 use Rattle.fs_ident.specs.declared.actor.Peer.{Peer}
 use Rattle.fs_ident.specs.declared.actor.Peer.TheVariants.{Client as OfSession, Server as OfServer}
 use Rattle.fs_ident.specs.declared.actor.Session.{Session}
@@ -29,7 +30,7 @@ use Rattle.fs_msg.specs.declared.msg.Msg.{Msg}
 use Rattle.fs_msg.specs.declared.msg.Msg.TheVariants as msg
 use Rattle.fs_msg.specs.declared.peer_msg.PeerMsg.{PeerMsg}
 use Rattle.fs_record.specs.declared.parcel.Parcel.{Parcel}
-use Rattle.fs_server.specs.Follows.{to_server, vote_here}
+use Rattle.fs_server.specs.Follows.{path_in_the_way, to_server, vote_here}
 use Rattle.fs_server.specs.Server.{is_mine, to_session}
 use Rattle.fs_server.specs.Ships.{first_gone}
 use Rattle.fs_server.specs.declared.state.Server.{Server}
@@ -267,15 +268,17 @@ moved_names servers owners id h = elim (longest owners id) as
       | Some e ↦ λ g. g
     ] h
 
-by_names : (servers : ℕ) (u : Option Use) (now : ℕ) → VoteNames servers (vote_by u None now)
-by_names servers None now = tt
-by_names servers (Some u) now = tt
+by_names : (servers : ℕ) (u : Option Use) (through : Option PathNo) (now : ℕ) → VoteNames servers (vote_by u through now)
+by_names servers None None now = tt
+by_names servers None (Some lease) now = tt
+by_names servers (Some u) through now = tt
 
 pub vote_names : (servers : ℕ) (s : Server) (by : Session) (p : Part) → ((id : List ℕ) → server_of s.map id < servers)
     → VoteNames servers (vote_here s by p)
 vote_names servers s by p h = elim (is_mine s p.file) as
-    (λ b. VoteNames servers (cond b (vote_by (first_gone s.rows by p.uses) None s.last) (moved_to (longest s.map p.file)))) [
-      | true ↦ by_names servers (first_gone s.rows by p.uses) s.last
+    (λ b. VoteNames servers (cond b (vote_by (first_gone s.rows by p.uses) (path_in_the_way s p.freeze) s.last)
+    (moved_to (longest s.map p.file)))) [
+      | true ↦ by_names servers (first_gone s.rows by p.uses) (path_in_the_way s p.freeze) s.last
       | false ↦ moved_names servers s.map p.file (h p.file)
     ]
 

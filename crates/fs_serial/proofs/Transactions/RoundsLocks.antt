@@ -24,9 +24,10 @@ use Rattle.fs_msg.specs.declared.msg.Msg.{Msg}
 use Rattle.fs_msg.specs.declared.msg.Msg.TheVariants as msg
 use Rattle.fs_server.specs.Begins.{Round, asked_part, leader_with, own_part, part_round, parts_in, rounds}
 use Rattle.fs_server.specs.Counts.{ask_for}
-use Rattle.fs_server.specs.Follows.{to_server, vote_here}
+use Rattle.fs_server.specs.Follows.{recalls_for, to_server, vote_here}
 use Rattle.fs_server.specs.Server.{is_mine}
 use Rattle.fs_server.specs.Ships.{first_gone}
+use Rattle.fs_server.specs.declared.state.Server.{Server}
 use Rattle.fs_txn.specs.Leading.{agreed_part, said_by, said_yes, yes_from}
 use Rattle.fs_txn.specs.Locks.{Agreed, IsKept, IsOf, Kept, LocksHold}
 use Rattle.fs_txn.specs.Preparing.{row_locked, rows_voted}
@@ -34,10 +35,12 @@ use Rattle.fs_txn.specs.Stages.{Key, Told, word_to}
 use Rattle.fs_txn.specs.Stages.Word.{Decide, Prepare}
 use Rattle.fs_txn.specs.Votes.{Votes}
 use Rattle.fs_txn.specs.declared.leading.Leading.{Leading}
+use Rattle.fs_txn.specs.declared.mode.Mode2.{Mode2}
 use Rattle.fs_txn.proofs.Locking.{used_same}
 use Rattle.fs_serial.specs.Cluster.{InFlight, in_flight_from}
-use Rattle.fs_serial.specs.Words.{key_of, telling_of, told_in, told_with}
+use Rattle.fs_serial.specs.Words.{telling_of, told_in}
 use Rattle.fs_serial.proofs.Transactions.OwnVotes.{voted_stay, yes_stands}
+use Rattle.fs_serial.proofs.Transactions.Recalled.{recalls_tell_nothing}
 use Rattle.fs_serial.proofs.Transactions.Tables.{locks_alike, said_its}
 use Rattle.fs_serial.proofs.Transactions.YesLocks.{yes_locks}
 
@@ -87,11 +90,11 @@ round_votes txn number by p r = elim (is_mine r.server p.file) as (λ b. length 
 
 -- ## Part by part
 
-module _ (txn : TxnNo) (by : Session) (m : ToLead) (me : ℕ) (said : List Agreed) (kept : List Kept)
+module _ (mode : Mode2) (txn : TxnNo) (by : Session) (m : ToLead) (me : ℕ) (said : List Agreed) (kept : List Kept)
     (new : (s : TxnNo) → IsOf said s by ⊎ IsKept kept s by → ⊥) where
   -- the transaction, as it stands then
   abbrev pub led_so_far : Round → Leading
-  led_so_far r = record { leader = leader_with txn by m r.votes; at = r.at }
+  led_so_far r = record { leader = leader_with mode txn by m r.votes; at = r.at }
 
   -- the parts that said Yes here
   abbrev pub said_so_far : Round → List Agreed
@@ -103,24 +106,24 @@ module _ (txn : TxnNo) (by : Session) (m : ToLead) (me : ℕ) (said : List Agree
 
   -- the part of that number, as one that said Yes
   abbrev none_yet : Leading
-  none_yet = record { leader = leader_with txn by m []; at = [] }
+  none_yet = record { leader = leader_with mode txn by m []; at = [] }
 
   abbrev of_number : ℕ × ℕ → List Agreed
-  of_number x = agreed_part none_yet x.0 (slice_get (parts_in m) x.0)
+  of_number x = agreed_part none_yet x.0 (slice_get (parts_in mode m) x.0)
 
   abbrev at_me : ℕ × ℕ → Bool
   at_me x = x.1 == me
 
   said_more : (votes : Votes) (at : List ℕ) (v : Option Vote) (k : ℕ) → length votes ≡ length at
-      → said_by me (record { leader = leader_with txn by m (votes ++ v ∷ []); at = at ++ k ∷ [] })
-      ≡ said_by me (record { leader = leader_with txn by m votes; at = at }) ++ flat_map of_number
+      → said_by me (record { leader = leader_with mode txn by m (votes ++ v ∷ []); at = at ++ k ∷ [] })
+      ≡ said_by me (record { leader = leader_with mode txn by m votes; at = at }) ++ flat_map of_number
       (filter at_me (cond (said_yes v) ((0 + length votes, k) ∷ []) []))
   said_more votes at v k same =
       ap (λ xs. flat_map of_number (filter at_me xs)) (yes_last 0 votes at v k same)
       ∙ ap (flat_map of_number) (filter-append at_me (yes_from 0 votes at) (cond (said_yes v) ((0 + length votes, k) ∷ []) []))
       ∙ flat_map-append of_number (filter at_me (yes_from 0 votes at)) (filter at_me (cond (said_yes v) ((0 + length votes, k) ∷ []) []))
 
-  module _ (number : ℕ) (p : Part) (part : slice_get (parts_in m) number ≡ Some p) (r : Round) (at : length r.at ≡ number)
+  module _ (number : ℕ) (p : Part) (part : slice_get (parts_in mode m) number ≡ Some p) (r : Round) (at : length r.at ≡ number)
       (voted : length r.votes ≡ number) where
     abbrev y : Agreed
     y = record { key = record { txn = txn; part = number }; wanted = record { session = by; part = p } }
@@ -128,19 +131,19 @@ module _ (txn : TxnNo) (by : Session) (m : ToLead) (me : ℕ) (said : List Agree
     same : length r.votes ≡ length r.at
     same = voted ∙ sym at
 
-    not_said : (v : Option Vote) (k : ℕ) → said_yes v ≡ false
-        → said_by me (record { leader = leader_with txn by m (r.votes ++ v ∷ []); at = r.at ++ k ∷ [] }) ≡ said_by me (led_so_far r)
+    pub not_said : (v : Option Vote) (k : ℕ) → said_yes v ≡ false
+        → said_by me (record { leader = leader_with mode txn by m (r.votes ++ v ∷ []); at = r.at ++ k ∷ [] }) ≡ said_by me (led_so_far r)
     not_said v k none =
         said_more r.votes r.at v k same ∙ ap
         (λ b. said_by me (led_so_far r) ++ flat_map of_number (filter at_me (cond b ((0 + length r.votes, k) ∷ []) []))) none
         ∙ append-nil (said_by me (led_so_far r))
 
-    is_said : said_by me (record { leader = leader_with txn by m (r.votes ++ Some Yes ∷ []); at = r.at ++ me ∷ [] })
+    pub is_said : said_by me (record { leader = leader_with mode txn by m (r.votes ++ Some Yes ∷ []); at = r.at ++ me ∷ [] })
         ≡ said_by me (led_so_far r) ++ y ∷ []
     is_said =
         said_more r.votes r.at (Some Yes) me same
         ∙ ap (λ b. said_by me (led_so_far r) ++ flat_map of_number (cond b ((0 + length r.votes, me) ∷ []) [])) (itself me)
-        ∙ ap (λ n. said_by me (led_so_far r) ++ (agreed_part none_yet n (slice_get (parts_in m) n) ++ []))
+        ∙ ap (λ n. said_by me (led_so_far r) ++ (agreed_part none_yet n (slice_get (parts_in mode m) n) ++ []))
         (let e : 0 + length r.votes ≡ number = omega arith in e)
         ∙ ap (λ o. said_by me (led_so_far r) ++ (agreed_part none_yet number o ++ [])) part
 
@@ -156,12 +159,12 @@ module _ (txn : TxnNo) (by : Session) (m : ToLead) (me : ℕ) (said : List Agree
 
     -- a part that is not said Yes of locks nothing
     unsaid : (rows : List Row) (v : Option Vote) (k : ℕ) → said_yes v ≡ false → LocksHold rows (said_so_far r) kept
-        → LocksHold rows (said ++ said_by me (record { leader = leader_with txn by m (r.votes ++ v ∷ []); at = r.at ++ k ∷ [] })) kept
+        → LocksHold rows (said ++ said_by me (record { leader = leader_with mode txn by m (r.votes ++ v ∷ []); at = r.at ++ k ∷ [] })) kept
     unsaid rows v k none h = subst (λ ys. LocksHold rows (said ++ ys) kept) (sym (not_said v k none)) h
 
     yes_said : first_gone r.server.rows by p.uses ≡ None → LocksSoFar r
         → LocksHold (rows_voted Yes txn p.uses r.server.rows)
-        (said ++ said_by me (record { leader = leader_with txn by m (r.votes ++ Some Yes ∷ []); at = r.at ++ me ∷ [] })) kept
+        (said ++ said_by me (record { leader = leader_with mode txn by m (r.votes ++ Some Yes ∷ []); at = r.at ++ me ∷ [] })) kept
     yes_said none h =
         subst (λ ys. LocksHold (rows_voted Yes txn p.uses r.server.rows) (said ++ ys) kept) (sym is_said)
         (locks_alike (rows_voted Yes txn p.uses r.server.rows) (y ∷ said_so_far r) (said ++ (said_by me (led_so_far r) ++ y ∷ [])) kept kept
@@ -181,7 +184,7 @@ module _ (txn : TxnNo) (by : Session) (m : ToLead) (me : ℕ) (said : List Agree
       ordered = ordered_map (row_locked txn p.uses) (λ x. (used_same txn p.uses x).number) r.server.rows h.ordered;
       locks = subst
           (λ k. LocksHold (rows_voted Yes txn p.uses r.server.rows)
-          (said ++ said_by me (record { leader = leader_with txn by m (r.votes ++ Some Yes ∷ []); at = r.at ++ k ∷ [] })) kept) (sym mine)
+          (said ++ said_by me (record { leader = leader_with mode txn by m (r.votes ++ Some Yes ∷ []); at = r.at ++ k ∷ [] })) kept) (sym mine)
           (yes_said (yes_stands r.server by p here says) h);
     }
     own_locked (Ended n u w) mine here says h =
@@ -201,18 +204,18 @@ module _ (txn : TxnNo) (by : Session) (m : ToLead) (me : ℕ) (said : List Agree
     ] refl
 
   pub rounds_locked : (ps : List Part) (number : ℕ) (r : Round)
-      → ((i : ℕ) (p : Part) → slice_get ps i ≡ Some p → slice_get (parts_in m) (number + i) ≡ Some p) → length r.at ≡ number
+      → ((i : ℕ) (p : Part) → slice_get ps i ≡ Some p → slice_get (parts_in mode m) (number + i) ≡ Some p) → length r.at ≡ number
       → length r.votes ≡ number → r.server.me ≡ me
       → LocksSoFar r → LocksSoFar (rounds txn number by ps r)
   rounds_locked [] number r parts at voted mine h = h
   rounds_locked (p ∷ ps) number r parts at voted mine h =
       rounds_locked ps (number + 1) (part_round txn number by p r)
-      (λ i q e. subst (λ n. slice_get (parts_in m) n ≡ Some q) (let s : number + suc i ≡ (number + 1) + i = omega arith in s)
+      (λ i q e. subst (λ n. slice_get (parts_in mode m) n ≡ Some q) (let s : number + suc i ≡ (number + 1) + i = omega arith in s)
       (parts (suc i) q e))
       (round_at txn number by p r ∙ ap (λ n. n + 1) at) (round_votes txn number by p r ∙ ap (λ n. n + 1) voted)
       (round_me txn number by p r ∙ mine)
       (round_locked number p
-      (subst (λ n. slice_get (parts_in m) n ≡ Some p) (let s : number + 0 ≡ number = omega arith in s)
+      (subst (λ n. slice_get (parts_in mode m) n ≡ Some p) (let s : number + 0 ≡ number = omega arith in s)
       (parts 0 p refl)) r at voted mine h)
 
 -- ## What is sent
@@ -230,20 +233,23 @@ sent_append k ((OfServer to, msg.Client m) ∷ xs) ys = sent_append k xs ys
 sent_append k ((OfServer to, msg.Answer m) ∷ xs) ys = sent_append k xs ys
 sent_append k ((OfSession to, m) ∷ xs) ys = sent_append k xs ys
 
-pub asks_undecided : (k to : ℕ) (txn : TxnNo) (number : ℕ) (by : Session) (p : Part) (sent : List (Peer × Msg)) → NoDecision k sent
-    → NoDecision k (sent ++ to_server to (ask_for txn number by p) ∷ [])
-asks_undecided k to txn number by p sent none key at effects i =
-    let ask : Told = told_with k to (key_of txn number, Prepare (record { session = by; part = p })) in
-    In-both (word_to key at (Decide effects)) (telling_of (in_flight_from k sent)) (ask ∷ []) ⊥ (none key at effects)
-    (λ j. elim j as
-    (λ _. ⊥) [
-      | inl e ↦ let wrong : Decide effects ≡ Prepare (record { session = by; part = p }) = ap (λ (x : Told). x.word) e in
-          absurd (cc)
-      | inr z ↦ z
-    ])
+-- nor is one behind, where these messages tell none
+more_undecided : (k : ℕ) (sent more : List (Peer × Msg)) → NoDecision k sent → NoDecision k more → NoDecision k (sent ++ more)
+more_undecided k sent more none quiet key at effects i =
+    In-both (word_to key at (Decide effects)) (telling_of (in_flight_from k sent)) (telling_of (in_flight_from k more)) ⊥
+    (none key at effects) (quiet key at effects)
     (subst (In (word_to key at (Decide effects)))
-    (ap telling_of (sent_append k sent (to_server to (ask_for txn number by p) ∷ []))
-    ∙ filter_map-append told_in (in_flight_from k sent) _) i)
+    (ap telling_of (sent_append k sent more) ∙ filter_map-append told_in (in_flight_from k sent) (in_flight_from k more)) i)
+
+pub ask_undecided : (k to : ℕ) (txn : TxnNo) (number : ℕ) (by : Session) (p : Part)
+    → NoDecision k (to_server to (ask_for txn number by p) ∷ [])
+ask_undecided k to txn number by p key at effects (inl e) =
+    let wrong : Decide effects ≡ Prepare (record { session = by; part = p }) = ap (λ (x : Told). x.word) e in
+    absurd (cc)
+ask_undecided k to txn number by p key at effects (inr i) = i
+
+pub recalls_undecided : (k : ℕ) (v : Vote) (s : Server) (p : Part) → NoDecision k (recalls_for v s p)
+recalls_undecided k v s p key at effects i = subst (In (word_to key at (Decide effects))) (recalls_tell_nothing k v s p) i
 
 -- ## What stays
 
@@ -266,7 +272,8 @@ rounds_undecided k txn number by [] r none = none
 rounds_undecided k txn number by (p ∷ ps) r none = rounds_undecided k txn (number + 1) by ps (part_round txn number by p r)
     (elim (is_mine r.server p.file) as
     (λ b. NoDecision k (round_by txn number by p r b).send) [
-      | true ↦ none
-      | false ↦
-          asks_undecided k (server_of r.server.map p.file) txn number by p r.send none
+      | true ↦ more_undecided k r.send (recalls_for (vote_here r.server by p) r.server p) none
+          (recalls_undecided k (vote_here r.server by p) r.server p)
+      | false ↦ more_undecided k r.send (to_server (server_of r.server.map p.file) (ask_for txn number by p) ∷ []) none
+          (ask_undecided k (server_of r.server.map p.file) txn number by p)
     ])

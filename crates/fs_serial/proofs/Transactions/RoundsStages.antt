@@ -16,7 +16,7 @@ use Rattle.fs_msg.specs.declared.msg.Msg.{Msg}
 use Rattle.fs_msg.specs.declared.msg.Msg.TheVariants as msg
 use Rattle.fs_server.specs.Begins.{Round, asked_part, own_part, part_round, parts_in, rounds}
 use Rattle.fs_server.specs.Counts.{ask_for}
-use Rattle.fs_server.specs.Follows.{to_server, vote_here}
+use Rattle.fs_server.specs.Follows.{recalls_for, to_server, vote_here}
 use Rattle.fs_server.specs.Server.{is_mine}
 use Rattle.fs_server.specs.declared.state.Server.{Server}
 use Rattle.fs_txn.specs.Leading.{stage_by}
@@ -25,6 +25,7 @@ use Rattle.fs_txn.specs.Stages.Stage.{Unknown, Counted}
 use Rattle.fs_txn.specs.Stages.Word.{Prepare}
 use Rattle.fs_txn.specs.Telling.{after_ask, after_own, with_key}
 use Rattle.fs_txn.specs.Votes.{Votes}
+use Rattle.fs_txn.specs.declared.mode.Mode2.{Mode2}
 use Rattle.fs_txn.proofs.Keys.{key_is, txn_itself}
 use Rattle.fs_txn.proofs.Telling.{asks, owns}
 use Rattle.fs_serial.specs.Cluster.{Lines, in_flight_from, with_sent}
@@ -32,20 +33,22 @@ use Rattle.fs_serial.specs.Words.{key_of, telling_of}
 use Rattle.fs_serial.proofs.Lists.ByPlace.{front_at, last_at, other_at}
 use Rattle.fs_serial.proofs.Transactions.Desks.{stand_alike, telling_append}
 use Rattle.fs_serial.proofs.Transactions.OwnVotes.{counts_here, stage_counted}
+use Rattle.fs_serial.proofs.Transactions.Recalled.{recalls_answer_nothing, recalls_tell_nothing}
 use Rattle.fs_serial.proofs.Transactions.RoundsLocks.{round_at, round_by, round_me, round_votes, sent_append}
 
 -- ## What all rounds do
 
--- of the server they change rows alone
+-- of the server they change rows alone, and which files are kept
 pub rounds_server : (txn : TxnNo) (number : ℕ) (by : Session) (ps : List Part) (r : Round)
-    → (rounds txn number by ps r).server ≡ (let s : Server = record r.server { rows = (rounds txn number by ps r).server.rows } in s)
+    → (rounds txn number by ps r).server ≡ (let u : Server = (rounds txn number by ps r).server in
+    let s : Server = record r.server { rows = u.rows; paths = u.paths } in s)
 rounds_server txn number by [] r = refl
 rounds_server txn number by (p ∷ ps) r =
+    let u : Server = (rounds txn (number + 1) by ps (part_round txn number by p r)).server in
     rounds_server txn (number + 1) by ps (part_round txn number by p r)
     ∙ elim (is_mine r.server p.file) as
-    (λ b. (let s : Server = record
-    (round_by txn number by p r b).server { rows = (rounds txn (number + 1) by ps (part_round txn number by p r)).server.rows } in s)
-    ≡ (let s : Server = record r.server { rows = (rounds txn (number + 1) by ps (part_round txn number by p r)).server.rows } in s)) [
+    (λ b. (let s : Server = record (round_by txn number by p r b).server { rows = u.rows; paths = u.paths } in s)
+    ≡ (let s : Server = record r.server { rows = u.rows; paths = u.paths } in s)) [
       | true ↦ refl
       | false ↦ refl
     ]
@@ -102,13 +105,16 @@ pub rounds_lines : (k : ℕ) (txn : TxnNo) (number : ℕ) (by : Session) (ps : L
 rounds_lines k txn number by [] r lines h = h
 rounds_lines k txn number by (p ∷ ps) r lines h = rounds_lines k txn (number + 1) by ps (part_round txn number by p r) lines
     (elim (is_mine r.server p.file) as (λ b. with_sent k (round_by txn number by p r b).send lines ≡ lines) [
-      | true ↦ h
+      | true ↦
+          let v : Vote = vote_here r.server by p in
+          sent_on k r.send (recalls_for v r.server p) lines ∙ ap (with_sent k (recalls_for v r.server p)) h
+          ∙ recalls_answer_nothing k v r.server p lines
       | false ↦ sent_on k r.send (to_server (server_of r.server.map p.file) (ask_for txn number by p) ∷ []) lines ∙ h
     ])
 
 -- ## Where the parts stand
 
-module _ (k : ℕ) (txn : TxnNo) (by : Session) (m : ToLead) (old : Desks) (own : txn.server ≡ k)
+module _ (mode : Mode2) (k : ℕ) (txn : TxnNo) (by : Session) (m : ToLead) (old : Desks) (own : txn.server ≡ k)
     (new : (y : Key) → same_txn y.txn txn ≡ true → old.stages y ≡ Unknown) where
   abbrev pub wanted_at : Option Part → Wanted → Wanted
   wanted_at None w = w
@@ -116,7 +122,7 @@ module _ (k : ℕ) (txn : TxnNo) (by : Session) (m : ToLead) (old : Desks) (own 
 
   -- what is asked for each part
   abbrev pub parts_with : Key → Wanted
-  parts_with y = cond (same_txn y.txn txn) (wanted_at (slice_get (parts_in m) y.part) (old.parts y)) (old.parts y)
+  parts_with y = cond (same_txn y.txn txn) (wanted_at (slice_get (parts_in mode m) y.part) (old.parts y)) (old.parts y)
 
   -- their stages, by these votes and servers
   abbrev pub stages_with : Votes → List ℕ → Key → Stage
@@ -136,7 +142,7 @@ module _ (k : ℕ) (txn : TxnNo) (by : Session) (m : ToLead) (old : Desks) (own 
   pub none_asked : (s : Server) → StagesHold old → StagesHold (desks_with (record { server = s; votes = []; at = []; send = [] }))
   none_asked s h y =
       elim (same_txn y.txn txn) as
-      (λ b. same_txn y.txn txn ≡ b → IsStage y (cond b (wanted_at (slice_get (parts_in m) y.part) (old.parts y)) (old.parts y))
+      (λ b. same_txn y.txn txn ≡ b → IsStage y (cond b (wanted_at (slice_get (parts_in mode m) y.part) (old.parts y)) (old.parts y))
       (cond b (stage_by (slice_get [] y.part) (slice_get [] y.part)) (old.stages y)) (λ j. old.prepared j y)
       (told_of y (old.telling ++ []))) [
         | true ↦ λ e.
@@ -148,7 +154,7 @@ module _ (k : ℕ) (txn : TxnNo) (by : Session) (m : ToLead) (old : Desks) (own 
             (h y)
       ] refl
 
-  module _ (number : ℕ) (p : Part) (part : slice_get (parts_in m) number ≡ Some p) (r : Round) (at : length r.at ≡ number)
+  module _ (number : ℕ) (p : Part) (part : slice_get (parts_in mode m) number ≡ Some p) (r : Round) (at : length r.at ≡ number)
       (voted : length r.votes ≡ number) where
     abbrev key : Key
     key = key_of txn number
@@ -158,7 +164,7 @@ module _ (k : ℕ) (txn : TxnNo) (by : Session) (m : ToLead) (old : Desks) (own 
 
     wanted_is : parts_with key ≡ wanted
     wanted_is =
-        ap (λ b. cond b (wanted_at (slice_get (parts_in m) number) (old.parts key)) (old.parts key)) (txn_itself txn)
+        ap (λ b. cond b (wanted_at (slice_get (parts_in mode m) number) (old.parts key)) (old.parts key)) (txn_itself txn)
         ∙ ap (λ o. wanted_at o (old.parts key)) part
 
     same_parts : (y : Key) → parts_with y ≡ with_key key wanted parts_with y
@@ -206,7 +212,10 @@ module _ (k : ℕ) (txn : TxnNo) (by : Session) (m : ToLead) (old : Desks) (own 
           parts = same_parts;
           stages = λ y. one_stage r.server.me (Some v) y ∙ ap (λ x. with_key key x (stages_with r.votes r.at) y) (sym counted);
           prepared = λ j y. refl;
-          telling = refl;
+          telling = ap (λ fs. old.telling ++ telling_of fs) (sent_append k r.send (recalls_for v r.server p))
+              ∙ ap (λ ws. old.telling ++ ws) (telling_append (in_flight_from k r.send) (in_flight_from k (recalls_for v r.server p)))
+              ∙ ap (λ ws. old.telling ++ (telling_of (in_flight_from k r.send) ++ ws)) (recalls_tell_nothing k v r.server p)
+              ∙ ap (λ ws. old.telling ++ ws) (append-nil (telling_of (in_flight_from k r.send)));
         }) (owns (desks_with r) key wanted v h unknown)
 
     -- any other is asked for
@@ -238,16 +247,16 @@ module _ (k : ℕ) (txn : TxnNo) (by : Session) (m : ToLead) (old : Desks) (own 
         ] refl
 
   pub rounds_stand : (ps : List Part) (number : ℕ) (r : Round)
-      → ((i : ℕ) (p : Part) → slice_get ps i ≡ Some p → slice_get (parts_in m) (number + i) ≡ Some p) → length r.at ≡ number
+      → ((i : ℕ) (p : Part) → slice_get ps i ≡ Some p → slice_get (parts_in mode m) (number + i) ≡ Some p) → length r.at ≡ number
       → length r.votes ≡ number → r.server.me ≡ k
       → StagesHold (desks_with r) → StagesHold (desks_with (rounds txn number by ps r))
   rounds_stand [] number r parts at voted mine h = h
   rounds_stand (p ∷ ps) number r parts at voted mine h =
       rounds_stand ps (number + 1) (part_round txn number by p r)
-      (λ i q e. subst (λ n. slice_get (parts_in m) n ≡ Some q) (let s : number + suc i ≡ (number + 1) + i = omega arith in s)
+      (λ i q e. subst (λ n. slice_get (parts_in mode m) n ≡ Some q) (let s : number + suc i ≡ (number + 1) + i = omega arith in s)
       (parts (suc i) q e))
       (round_at txn number by p r ∙ ap (λ n. n + 1) at) (round_votes txn number by p r ∙ ap (λ n. n + 1) voted)
       (round_me txn number by p r ∙ mine)
       (round_stands number p
-      (subst (λ n. slice_get (parts_in m) n ≡ Some p) (let s : number + 0 ≡ number = omega arith in s)
+      (subst (λ n. slice_get (parts_in mode m) n ≡ Some p) (let s : number + 0 ≡ number = omega arith in s)
       (parts 0 p refl)) r at voted mine h)

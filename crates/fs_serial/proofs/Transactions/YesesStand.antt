@@ -21,7 +21,6 @@ use Rattle.fs_txn.specs.Ready.{agreed_of}
 use Rattle.fs_txn.specs.Stages.{Key, Wanted}
 use Rattle.fs_txn.specs.declared.leader.Leader.{Leader}
 use Rattle.fs_txn.specs.declared.leading.Leading.{Leading}
-use Rattle.fs_txn.specs.declared.mode.Mode2.TheVariants.{Plain}
 use Rattle.fs_txn.proofs.Yeses.{commit_yes}
 use Rattle.fs_serial.specs.Cluster.{Cluster, parcels_of}
 use Rattle.fs_serial.specs.Leading.{IsLeading, IsLedBy, LedHolds}
@@ -36,6 +35,7 @@ use Rattle.fs_serial.proofs.DecidedEffects.ToldParts.{HasReady}
 use Rattle.fs_serial.proofs.Lists.Servers.{In_at}
 use Rattle.fs_serial.proofs.Places.HeldRows.{row_of_all}
 use Rattle.fs_serial.proofs.Transactions.OwnersOfLocks.{in_range}
+use Rattle.fs_serial.proofs.Transactions.PartsApart.{uses_any}
 use Rattle.fs_serial.proofs.Transactions.Tables.{In_all, In_some}
 use Rattle.fs_serial.proofs.Transactions.YesElsewhere.{ready_there}
 use Rattle.fs_serial.proofs.Transactions.Undecided.{stands, up_led}
@@ -67,12 +67,12 @@ said_stands c led s i y j = stand_in c s y.wanted.session y.wanted.part.uses i (
 -- ## Each part
 
 -- where nothing ends the transaction, each of its parts said Yes
-pub voted_all : (l : Leader) → l.mode ≡ Plain → first_end l.votes ≡ None → (n : ℕ) (v : Option Vote) → slice_get l.votes n ≡ Some v
+pub voted_all : (l : Leader) → needs_path l.mode l.op ≡ false → first_end l.votes ≡ None → (n : ℕ) (v : Option Vote) → slice_get l.votes n ≡ Some v
     → slice_get l.votes n ≡ Some (Some Yes)
-voted_all l mode none n v e =
+voted_all l free none n v e =
     let r = reply_of l.op in
     let goes : unless_ended (first_end l.votes) (agreed l None) ≡ commit l r =
-    ap (λ o. unless_ended o (agreed l None)) none ∙ ap (λ m. cond (needs_path m l.op) (by_path l None) (commit l r)) mode in
+    ap (λ o. unless_ended o (agreed l None)) none ∙ ap (λ b. cond b (by_path l None) (commit l r)) free in
     e ∙ ap Some (commit_yes l None r _ goes v (In-got l.votes n v e))
 
 module _ (k skew greatest : ℕ) (c : Cluster) (s : Server) (at : slice_get c.servers k ≡ Some s) (h : ClusterHolds skew greatest c)
@@ -93,8 +93,8 @@ module _ (k skew greatest : ℕ) (c : Cluster) (s : Server) (at : slice_get c.se
   pub session_stands : LedStands skew greatest (sight_in (world_of s c)) by (settled_at by (ends_in c by)) d
   session_stands = stands skew greatest c s here h by (lead_of d) (up_led skew greatest c s here h by s here l j refl d led.led) d led.led
 
-  its_parts : l.leader.parts ≡ parts_in (lead_of d)
-  its_parts = leads.leader.parts ∙ ap (λ (x : TheLed). parts_in (lead_of x)) it
+  its_parts : l.leader.parts ≡ parts_in l.leader.mode (lead_of d)
+  its_parts = leads.leader.parts ∙ ap (λ (x : TheLed). parts_in l.leader.mode (lead_of x)) it
 
   module _ (none : first_end l.leader.votes ≡ None) where
     module _ (n : ℕ) (p : Part) (part : slice_get l.leader.parts n ≡ Some p) where
@@ -140,6 +140,7 @@ module _ (k skew greatest : ℕ) (c : Cluster) (s : Server) (at : slice_get c.se
 
     pub full_stands : AllStand (rows_in c) by d.entry.uses
     full_stands u i =
-        let q = In_some (λ (p : Part). p.uses) u (parts_in (lead_of d)) (session_stands.parts u i) in
-        let n = In_at (parts_in (lead_of d)) q.0 q.1.0 in
+        let parts : List Part = parts_in l.leader.mode (lead_of d) in
+        let q = In_some (λ (p : Part). p.uses) u parts (subst (In u) (sym (uses_any l.leader.mode (lead_of d))) (session_stands.parts u i)) in
+        let n = In_at parts q.0 q.1.0 in
         part_stands n.place q.0 (ap (λ (ps : List Part). slice_get ps n.place) its_parts ∙ n.is) u q.1.1

@@ -29,7 +29,7 @@ use Rattle.fs_msg.specs.declared.server_note.ServerNote.{ServerNote}
 use Rattle.fs_msg.specs.declared.server_note.ServerNote.TheVariants as note
 use Rattle.fs_msg.specs.declared.voted.Voted.{Voted as VotedMsg}
 use Rattle.fs_server.specs.Counts.{done_step, done_with}
-use Rattle.fs_server.specs.Follows.{after_decision, after_vote, applies, decide_step, prepare_step, ready_of, vote_here, votes}
+use Rattle.fs_server.specs.Follows.{after_decision, after_vote, applies, decide_step, prepare_step, ready_of, vote_here}
 use Rattle.fs_server.specs.Leads.{lead_refusal, lead_step, leads_unless}
 use Rattle.fs_server.specs.Server.{Stepped, begun, strange, to_session}
 use Rattle.fs_server.specs.Step.{event_step, step}
@@ -53,7 +53,7 @@ use Rattle.fs_serial.proofs.Lists.SetAt.{get_here, set_twice}
 use Rattle.fs_serial.proofs.Returns.Lapsing.{begun_at, keep, there_begun}
 use Rattle.fs_serial.proofs.Returns.Lapsing as lapsing
 use Rattle.fs_serial.proofs.Transactions.AwaitedWords.{IsAskedBy, IsAwaitedBy, asked_by, decide_awaited, done_awaited, done_is}
-use Rattle.fs_serial.proofs.Transactions.AwaitedWords.{prepare_awaited, prepare_here}
+use Rattle.fs_serial.proofs.Transactions.AwaitedWords.{prepare_here}
 use Rattle.fs_serial.proofs.Transactions.Desks.{each_after, led_set}
 use Rattle.fs_serial.proofs.Transactions.OtherSteps.{begins_stands}
 use Rattle.fs_serial.proofs.Transactions.OwnersOfLocks.{in_range}
@@ -67,7 +67,7 @@ use Rattle.fs_serial.proofs.WholeRuns.EndedStay.{RowsLater, counts_rise, ended_s
 use Rattle.fs_serial.proofs.WholeRuns.EndedSteps.{EndFair, VotesFair, event_ending, event_fair, event_leading, event_one, event_still}
 use Rattle.fs_serial.proofs.WholeRuns.EndedVotes.{vote_fair}
 use Rattle.fs_serial.proofs.WholeRuns.LedWorlds.{OnlyRows}
-use Rattle.fs_serial.proofs.WholeRuns.LedEvents.{voted_leading, voted_rows}
+use Rattle.fs_serial.proofs.WholeRuns.LedEvents.{answers_with, voted_leading, voted_rows, votes_alone}
 use Rattle.fs_serial.proofs.WholeRuns.LedQuestions.{led_there}
 
 -- ## The leader of a transaction
@@ -109,7 +109,7 @@ module _ (skew greatest k : ℕ) (c : Cluster) (s : Server) (at : slice_get c.se
     told = record { txn = m.txn; number = m.number; vote = v }
 
     abbrev x : Stepped
-    x = votes v from m s
+    x = answers_with v from m [] s
 
     abbrev then : Cluster
     then = after_step k asks x c
@@ -142,8 +142,8 @@ module _ (skew greatest k : ℕ) (c : Cluster) (s : Server) (at : slice_get c.se
         let its : wanted ≡ (let w : Wanted = record { session = by; part = p.0 } in w) =
         sym word.wanted ∙ ap (λ u. h.led.parts (key_of u m.number)) (sym z.its) ∙ leads.wanted m.number p.0 p.1 in
         vote_fair skew greatest k c s at h by leads.led
-        (up_led skew greatest c s here h by z.server z.there l z.among refl leads.led leads.client.led) leads.client.led within p.0
-        (subst (In p.0) leads.leader.parts (In-got l.leader.parts m.number p.0 p.1)) number end now
+        (up_led skew greatest c s here h by z.server z.there l z.among refl leads.led leads.client.led) leads.client.led within
+        l.leader.mode p.0 (subst (In p.0) leads.leader.parts (In-got l.leader.parts m.number p.0 p.1)) number end now
         (ap (λ (w : Wanted). vote_here s w.session w.part) (sym its) ∙ says)
 
     voted_fair_then : EndsFair then
@@ -175,7 +175,7 @@ module _ (skew greatest k : ℕ) (c : Cluster) (s : Server) (at : slice_get c.se
         no_answer to z (inr y) = y
 
     pub prepared_fair : IsRightStep k asks c (prepare_step from m s)
-    prepared_fair = subst (IsRightStep k asks c) (sym (prepare_awaited k from c s at h.led m comes))
+    prepared_fair = subst (IsRightStep k asks c) (sym (votes_alone skew greatest k c s at h from m comes))
         (voted_fair_then, noted_none c asks then x.out.note (λ txn number end now e. absurd (cc e)))
 
   -- ## A decision

@@ -16,7 +16,6 @@ use Rattle.fs_field.specs.declared.used.Part.{Part}
 use Rattle.fs_field.specs.declared.vote.Vote.{Vote}
 use Rattle.fs_field.specs.declared.vote.Vote.TheVariants as vote
 use Rattle.fs_map.specs.Map.{server_of}
-use Rattle.fs_record.specs.declared.led_end.LedEnd.{LedEnd}
 use Rattle.fs_record.specs.declared.led_end.LedEnd.TheVariants as led
 use Rattle.fs_record.specs.declared.led_end.Why.{Why}
 use Rattle.fs_msg.specs.declared.answer.Answer.{Answer}
@@ -27,7 +26,6 @@ use Rattle.fs_msg.specs.declared.lead.Lead.{Lead as ToLead}
 use Rattle.fs_msg.specs.declared.msg.Msg.{Msg}
 use Rattle.fs_msg.specs.declared.msg.Msg.TheVariants as msg
 use Rattle.fs_msg.specs.declared.peer_msg.PeerMsg.TheVariants as peer
-use Rattle.fs_msg.specs.declared.prepare.Prepare.{Prepare as PrepareMsg}
 use Rattle.fs_msg.specs.declared.server_note.ServerNote.{ServerNote}
 use Rattle.fs_msg.specs.declared.server_note.ServerNote.TheVariants as note
 use Rattle.fs_msg.specs.declared.voted.Voted.{Voted as VotedMsg}
@@ -35,8 +33,8 @@ use Rattle.fs_server.specs.Begins.{Round, first_round, leader_with, parts_in, ro
 use Rattle.fs_server.specs.Concludes.{waits}
 use Rattle.fs_server.specs.Counts.{after_own_vote, ask_for, asked_at, comes_home, counts, counts_own, seeks, sent_on, vote_step, voted}
 use Rattle.fs_server.specs.Counts.{with_vote}
-use Rattle.fs_server.specs.Follows.{to_server, vote_here}
-use Rattle.fs_server.specs.Leads.{lead_refusal, leads_unless, refuses}
+use Rattle.fs_server.specs.Follows.{recalls_for, to_server, vote_here}
+use Rattle.fs_server.specs.Leads.{lead_refusal, leads_unless, mode_of, refuses}
 use Rattle.fs_server.specs.LeadingLaws.{CommitSplits}
 use Rattle.fs_server.specs.Server.{Stepped, is_mine, to_session}
 use Rattle.fs_server.specs.declared.event.ServerEvent.{ServerEvent}
@@ -45,6 +43,7 @@ use Rattle.fs_server.specs.declared.state.Server.{Server}
 use Rattle.fs_txn.specs.Leading.{leading_of}
 use Rattle.fs_txn.specs.Votes.{Votes, is_moved, votes_after}
 use Rattle.fs_txn.specs.declared.leading.Leading.{Leading}
+use Rattle.fs_txn.specs.declared.mode.Mode2.{Mode2}
 use Rattle.fs_txn.proofs.Keys.{txn_is}
 use Rattle.fs_serial.specs.Cluster.{Cluster, InFlight, IsThere, after_step, in_flight_from, is_between, parcels_of, without_arrived}
 use Rattle.fs_serial.specs.EndedLeases.{EndsFair, WasEnded, asker_of, session_led, session_of_txn}
@@ -59,6 +58,7 @@ use Rattle.fs_serial.proofs.Moves.Parcels.{parcels-append}
 use Rattle.fs_serial.proofs.Transactions.AwaitedWords.{IsAwaited, vote_here_is, vote_is}
 use Rattle.fs_serial.proofs.Transactions.Desks.{was_at}
 use Rattle.fs_serial.proofs.Transactions.PlacesAfter.{AreRelocked, relocked_not, voted_so, word_taken}
+use Rattle.fs_serial.proofs.Transactions.Recalled.{IsPathRecall, recalls_are, recalls_hand_nothing}
 use Rattle.fs_serial.proofs.Transactions.RoundsLocks.{round_by}
 use Rattle.fs_serial.proofs.Transactions.Tables.{in_with_leading}
 use Rattle.fs_serial.proofs.Transactions.Undecided.{up_asked, up_led}
@@ -72,24 +72,23 @@ use Rattle.fs_serial.proofs.WholeRuns.LedVotes.{counted_waits, own_waits, q}
 
 -- ## What is asked for
 
--- the message asks a server for a part
-pub record IsAsk (m : Peer × Msg) : Type 0 where
-  pub to : ℕ
-  pub prepare : PrepareMsg
-  pub is : m ≡ to_server to (peer.Prepare prepare)
-
-ask_votes : (m : Peer × Msg) → IsAsk m → (to : ℕ) (v : VotedMsg) → (OfServer to, msg.Peer (peer.Vote v)) ≡ m → ⊥
-ask_votes m a to v e =
-    let wrong : msg.Peer (peer.Vote v) ≡ msg.Peer (peer.Prepare a.prepare) = ap (λ (p : Peer × Msg). p.1) (e ∙ a.is) in absurd (cc wrong)
-
-ask_answers : (m : Peer × Msg) → IsAsk m → (to : Session) (z : LedEnd) → (OfSession to, msg.Answer (answer.Led z)) ≡ m → ⊥
-ask_answers m a to z e =
-    let wrong : OfSession to ≡ OfServer a.to = ap (λ (p : Peer × Msg). p.0) (e ∙ a.is) in absurd (cc wrong)
+-- the message asks a server for a part, or for a path lease back
+abbrev pub IsAsk : Peer × Msg → Type 0
+IsAsk (OfServer to, msg.Peer (peer.Prepare m)) = Unit {0}
+IsAsk (OfServer to, msg.Peer (peer.PathRecall number)) = Unit {0}
+IsAsk m = ⊥
 
 one_ask : (txn : TxnNo) (number : ℕ) (by : Session) (p : Part) (to : ℕ) (m : Peer × Msg)
     → In m (to_server to (ask_for txn number by p) ∷ []) → IsAsk m
-one_ask txn number by p to m (inl e) = record { to = to; prepare = _; is = e }
+one_ask txn number by p to m (inl e) = subst IsAsk (sym e) tt
 one_ask txn number by p to m (inr z) = absurd z
+
+recall_asks : (m : Peer × Msg) → IsPathRecall m → IsAsk m
+recall_asks (OfServer to, msg.Peer (peer.PathRecall number)) is = tt
+recall_asks m is = absurd is
+
+recalls_ask : (v : Vote) (s : Server) (p : Part) (m : Peer × Msg) → In m (recalls_for v s p) → IsAsk m
+recalls_ask v s p m i = recall_asks m (recalls_are v s p m i)
 
 rounds_asks : (txn : TxnNo) (number : ℕ) (by : Session) (ps : List Part) (r : Round) → ((m : Peer × Msg) → In m r.send → IsAsk m)
     → (m : Peer × Msg) → In m (rounds txn number by ps r).send → IsAsk m
@@ -98,7 +97,10 @@ rounds_asks txn number by (p ∷ ps) r are =
     rounds_asks txn (number + 1) by ps (round_by txn number by p r (is_mine r.server p.file)) (one (is_mine r.server p.file))
   where
     one : (b : Bool) (m : Peer × Msg) → In m (round_by txn number by p r b).send → IsAsk m
-    one true m i = are m i
+    one true m i = elim (In-append m r.send (recalls_for (vote_here r.server by p) r.server p) i) as (λ _. IsAsk m) [
+      | inl j ↦ are m j
+      | inr j ↦ recalls_ask (vote_here r.server by p) r.server p m j
+    ]
     one false m i = elim (In-append m r.send (to_server (server_of r.server.map p.file) (ask_for txn number by p) ∷ []) i) as
         (λ _. IsAsk m) [
           | inl j ↦ are m j
@@ -165,8 +167,8 @@ module _ (skew greatest k : ℕ) (c : Cluster) (s : Server) (at : slice_get c.se
             | inr p ↦ event_one skew greatest k c s at h f e x l o (subst (In l) w.leading p.0) j its
           ];
           ending = λ y i. event_ending skew greatest k c s at h f e x later y (subst (In y) w.ending i);
-          votes = λ to m i. absurd (ask_votes (OfServer to, msg.Peer (peer.Vote m)) (w.asks _ i) to m refl);
-          answers = λ to z i. absurd (ask_answers (OfSession to, msg.Answer (answer.Led z)) (w.asks _ i) to z refl);
+          votes = λ to m i. absurd (w.asks (OfServer to, msg.Peer (peer.Vote m)) i);
+          answers = λ to z i. absurd (w.asks (OfSession to, msg.Answer (answer.Led z)) i);
         })
 
   -- ## A question
@@ -176,11 +178,14 @@ module _ (skew greatest k : ℕ) (c : Cluster) (s : Server) (at : slice_get c.se
     abbrev asking : ServerEvent
     asking = event.FromClient by (Lead m)
 
+    abbrev mode : Mode2
+    mode = mode_of m.op m.kind
+
     abbrev r : Round
-    r = round_of by m s
+    r = round_of mode by m s
 
     abbrev begins : Leading
-    begins = record { leader = leader_with (txn_of s) by m r.votes; at = r.at }
+    begins = record { leader = leader_with mode (txn_of s) by m r.votes; at = r.at }
 
     up : (ends_in c by).up ≡ Lead m ∷ []
     up = up_asked skew greatest c s here h by k m comes
@@ -190,26 +195,26 @@ module _ (skew greatest k : ℕ) (c : Cluster) (s : Server) (at : slice_get c.se
 
     begun_votes : VotesFair c by r.votes
     begun_votes number end now i =
-        elim (rounds_said s (txn_of s) 0 by (parts_in m) (first_round s) (λ p. refl) (vote.Ended number end now) i) as
+        elim (rounds_said s (txn_of s) 0 by (parts_in mode m) (first_round s) (λ p. refl) (vote.Ended number end now) i) as
         (λ _. WasEnded c by number end now) [
           | inl z ↦ absurd z
           | inr p ↦
               vote_fair skew greatest k c s at h by asked.led
               (up ∙ ap (λ (x : ToLead). let xs : List ClientMsg = Lead x ∷ [] in xs) asked.told)
-              asked.is within p.0 (subst (λ (x : ToLead). In p.0 (parts_in x)) asked.told p.1.0) number end now p.1.1
+              asked.is within mode p.0 (subst (λ (x : ToLead). In p.0 (parts_in mode x)) asked.told p.1.0) number end now p.1.1
         ]
 
     begun_waits : OnlyWaits asking (note.Prepares (txn_of s)) begins r.send r.server
     begun_waits =
         let left = questions.left skew greatest k c s at h splits by m comes in
         record {
-          rows = rounds_relock (txn_of s) 0 by (parts_in m) (first_round s) s.rows (relocked_not s.rows);
+          rows = rounds_relock (txn_of s) 0 by (parts_in mode m) (first_round s) s.rows (relocked_not s.rows);
           given = ap (λ (z : Server). z.given) left;
           leading = ap (λ (z : Server). z.leading) left;
           ending = ap (λ (z : Server). z.ending) left;
           parcels = refl;
           none = (asks skew greatest k c s at h splits by m comes).1.0;
-          asks = rounds_asks (txn_of s) 0 by (parts_in m) (first_round s) (λ x z. absurd z);
+          asks = rounds_asks (txn_of s) 0 by (parts_in mode m) (first_round s) (λ x z. absurd z);
           votes = begun_votes;
           session = λ o i same.
               let few = (h.led.leading s here o i).begun in
@@ -354,16 +359,17 @@ module _ (skew greatest k : ℕ) (c : Cluster) (s : Server) (at : slice_get c.se
       own_right : (number : LeaseNo) (end now : ℕ) → own_vote ≡ vote.Ended number end now → WasEnded c l.leader.session number end now
       own_right =
           vote_fair skew greatest k c s at h l.leader.session leads.led
-          (up_led skew greatest c s here h l.leader.session s here l a.among refl leads.led leads.client.led) leads.client.led within p
-          (subst (In p) leads.leader.parts (In-got l.leader.parts m.number p part))
+          (up_led skew greatest c s here h l.leader.session s here l a.among refl leads.led leads.client.led) leads.client.led within
+          l.leader.mode p (subst (In p) leads.leader.parts (In-got l.leader.parts m.number p part))
 
       own : is_mine s p.file ≡ true → IsRightStep k voting c (counts_own m.number p own_vote l s)
       own mine =
           goes_on_fair skew greatest k c s at voting (λ items replied. refl) splits (note.Waits l.leader.txn)
-          (with_vote m.number own_vote (asked_at m.number s.me l)) [] (after_own_vote l.leader.txn p own_vote s)
+          (with_vote m.number own_vote (asked_at m.number s.me l)) (recalls_for own_vote s p) (after_own_vote l.leader.txn p own_vote s)
           (λ txn number end now e. absurd (cc e)) voted_own (own_waits skew greatest k c s at h splits from m comes p part moved mine)
-          (only_waits (note.Waits l.leader.txn) (votes_after l.leader.votes m.number own_vote) (slice_set l.at m.number s.me) []
-          (after_own_vote l.leader.txn p own_vote s) (voted_so own_vote l.leader.txn p.uses s.rows) refl refl refl refl (λ x z. absurd z)
+          (only_waits (note.Waits l.leader.txn) (votes_after l.leader.votes m.number own_vote) (slice_set l.at m.number s.me)
+          (recalls_for own_vote s p) (after_own_vote l.leader.txn p own_vote s) (voted_so own_vote l.leader.txn p.uses s.rows) refl refl
+          refl (recalls_hand_nothing k own_vote s p) (recalls_ask own_vote s p)
           (one_more own_vote own_right))
 
       home : (b : Bool) → is_mine s p.file ≡ b → IsRightStep k voting c

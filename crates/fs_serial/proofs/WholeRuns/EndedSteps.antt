@@ -226,7 +226,7 @@ module _ (skew greatest k : ℕ) (c : Cluster) (s : Server) (at : slice_get c.se
 
 -- ## An event
 
-arrived_among : (k : ℕ) (e : ServerEvent) (in_flight : List InFlight) (z : InFlight) → In z (without_arrived k e in_flight) → In z in_flight
+pub arrived_among : (k : ℕ) (e : ServerEvent) (in_flight : List InFlight) (z : InFlight) → In z (without_arrived k e in_flight) → In z in_flight
 arrived_among k (event.FromPeer from m) in_flight z i = In_without (is_between from k) in_flight z i
 arrived_among k e in_flight z i = i
 

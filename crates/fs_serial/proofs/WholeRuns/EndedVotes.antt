@@ -1,11 +1,12 @@
 -- A server votes that a lease had ended: it had.
-use Rattle.std.proofs.Common.{◌≡◌, ℕ, ◌+◌, ◌<◌, ◌≤◌, ◌⊎◌, not, true, false, List, [], ◌∷◌, cond, refl, sym, ap, ◌∙◌, subst, inl}
+use Rattle.std.proofs.Common.{◌≡◌, ℕ, ◌+◌, ◌<◌, ◌≤◌, ◌⊎◌, not, true, false, List, [], ◌∷◌, cond, refl, sym, ap, ap₂, ◌∙◌, subst, inl}
 use Rattle.std.proofs.Common.{inr, arith}
 use Rattle.std.proofs.lemmas.Bool.{ltb-true, ltb-false}
 use Rattle.std.specs.Prelude.{◌≢◌, Bool, Option, Some, None, nat_lt, slice_get}
 use Rattle.fs_ident.specs.Ident.{same}
 use Rattle.fs_ident.specs.In.{In}
 use Rattle.fs_ident.specs.declared.actor.LeaseNo.{LeaseNo}
+use Rattle.fs_ident.specs.declared.actor.PathNo.{PathNo}
 use Rattle.fs_ident.specs.declared.actor.Session.{Session}
 use Rattle.fs_ident.specs.declared.actor.TxnNo.{TxnNo}
 use Rattle.fs_ident.proofs.Booleans.{denied}
@@ -26,16 +27,17 @@ use Rattle.fs_parcel.proofs.Both.{passing}
 use Rattle.fs_client.specs.Led.{lead_of}
 use Rattle.fs_client.specs.declared.led.Led.{Led}
 use Rattle.fs_msg.specs.declared.client_msg.ClientMsg.TheVariants.{Lead}
+use Rattle.fs_path.specs.Tables.{through}
 use Rattle.fs_server.specs.Begins.{Round, parts_in, rounds}
 use Rattle.fs_server.specs.Counts.{after_own_vote}
-use Rattle.fs_server.specs.Follows.{vote_here}
+use Rattle.fs_server.specs.Follows.{path_in_the_way, vote_here}
 use Rattle.fs_server.specs.Server.{is_mine}
 use Rattle.fs_server.specs.Ships.{first_gone, has_row}
 use Rattle.fs_server.specs.declared.state.Server.{Server}
 use Rattle.fs_server.proofs.Following.{gone_same}
 use Rattle.fs_txn.specs.Parts.{led_files, part_at}
 use Rattle.fs_txn.specs.Preparing.{moved_to, vote_by}
-use Rattle.fs_txn.specs.declared.mode.Mode2.TheVariants.{Plain}
+use Rattle.fs_txn.specs.declared.mode.Mode2.{Mode2}
 use Rattle.fs_serial.specs.Cluster.{Cluster}
 use Rattle.fs_serial.specs.EndedLeases.{WasEnded}
 use Rattle.fs_serial.specs.Led.{LedStands}
@@ -47,6 +49,7 @@ use Rattle.fs_serial.specs.Seen.{ClusterHolds, given_at, world_of}
 use Rattle.fs_serial.specs.Sight.{IsGiven}
 use Rattle.fs_serial.specs.World.{settled_at, sight_in}
 use Rattle.fs_serial.proofs.Grants.OneLease.{lease_is}
+use Rattle.fs_serial.proofs.Moves.KeptPaths.{voted_alike}
 use Rattle.fs_serial.proofs.Places.AllHere.{row_at_home}
 use Rattle.fs_serial.proofs.Transactions.PlacesAfter.{AreRelocked, voted_so}
 use Rattle.fs_serial.proofs.Transactions.RoundsLocks.{round_by}
@@ -69,11 +72,19 @@ gone_relocked : (rows new : List Row) → AreRelocked rows new → (by : Session
 gone_relocked rows new q by uses =
     ap (λ rs. first_gone rs by uses) q.is ∙ gone_same q.change (relock_same q.change q.relock) rows by uses
 
--- a vote says the same while rows are locked
+-- what is kept is no path
+way_voted : (txn : TxnNo) (p : Part) (v : Vote) (s : Server) (o : Option (List ℕ))
+    → path_in_the_way (after_own_vote txn p v s) o ≡ path_in_the_way s o
+way_voted txn p v s None = refl
+way_voted txn p v s (Some file) = ap (through file) (voted_alike v txn p.freeze s.paths).issued
+
+-- a vote says the same while rows are locked and files are kept
 vote_relocked : (txn : TxnNo) (p : Part) (v : Vote) (s : Server) (by : Session) (q : Part)
     → vote_here (after_own_vote txn p v s) by q ≡ vote_here s by q
-vote_relocked txn p v s by q = ap (λ o. cond (is_mine s q.file) (vote_by o None s.last) (moved_to (longest s.map q.file)))
+vote_relocked txn p v s by q =
+    ap₂ (λ o w. cond (is_mine s q.file) (vote_by o w s.last) (moved_to (longest s.map q.file)))
     (gone_relocked s.rows (after_own_vote txn p v s).rows (voted_so v txn p.uses s.rows) by q.uses)
+    (way_voted txn p v s q.freeze)
 
 -- ## The lease that a vote names
 
@@ -90,15 +101,17 @@ voted_gone : (s : Server) (by : Session) (p : Part) (number : LeaseNo) (end now 
     → IsFirstGone s by p number end now
 voted_gone s by p number end now = by_file (is_mine s p.file) refl
   where
-    by_use : (o : Option Use) → first_gone s.rows by p.uses ≡ o → is_mine s p.file ≡ true
-        → vote_by o None s.last ≡ vote.Ended number end now → IsFirstGone s by p number end now
-    by_use (Some u) e mine h = record { mine = mine; used = u; first = e; no = cc; until = cc; reading = cc }
-    by_use None e mine h = absurd (cc h)
+    by_use : (o : Option Use) (w : Option PathNo) → first_gone s.rows by p.uses ≡ o → is_mine s p.file ≡ true
+        → vote_by o w s.last ≡ vote.Ended number end now → IsFirstGone s by p number end now
+    by_use (Some u) w e mine h = record { mine = mine; used = u; first = e; no = cc; until = cc; reading = cc }
+    by_use None None e mine h = absurd (cc h)
+    by_use None (Some lease) e mine h = absurd (cc h)
 
     by_file : (b : Bool) → is_mine s p.file ≡ b
-        → cond b (vote_by (first_gone s.rows by p.uses) None s.last) (moved_to (longest s.map p.file)) ≡ vote.Ended number end now
+        → cond b (vote_by (first_gone s.rows by p.uses) (path_in_the_way s p.freeze) s.last) (moved_to (longest s.map p.file))
+        ≡ vote.Ended number end now
         → IsFirstGone s by p number end now
-    by_file true mine h = by_use (first_gone s.rows by p.uses) refl mine h
+    by_file true mine h = by_use (first_gone s.rows by p.uses) (path_in_the_way s p.freeze) refl mine h
     by_file false mine h = absurd (cc h)
 
 -- a session whose operation is asked for, or is led and not decided yet
@@ -118,7 +131,8 @@ module _ (skew greatest k : ℕ) (c : Cluster) (s : Server) (at : slice_get c.se
       → number.count ≤ given_at (slice_get c.servers number.server)
   given_there number few = subst (λ n. number.count ≤ n) (count_own c.servers k s at (h.places.numbered k s at) number.server) few
 
-  module _ (p : Part) (i : In p (parts_in (lead_of d))) (number : LeaseNo) (end now : ℕ) (gone : IsFirstGone s by p number end now) where
+  module _ (mode : Mode2) (p : Part) (i : In p (parts_in mode (lead_of d))) (number : LeaseNo) (end now : ℕ)
+      (gone : IsFirstGone s by p number end now) where
     abbrev u : Use
     u = gone.used
 
@@ -128,8 +142,8 @@ module _ (skew greatest k : ℕ) (c : Cluster) (s : Server) (at : slice_get c.se
     -- it is one that the operation used, on the part's file
     of_part : In u d.entry.uses × (file_of u.field ≡ p.file)
     of_part =
-        let f = In-map (part_at Plain d.entry.op d.file d.entry.uses) p (led_files d.entry.op d.file) i in
-        let among : In u (part_at Plain d.entry.op d.file d.entry.uses f.0).uses = subst (λ (x : Part). In u x.uses) f.1.1 rowless.0 in
+        let f = In-map (part_at mode d.entry.op d.file d.entry.uses) p (led_files d.entry.op d.file) i in
+        let among : In u (part_at mode d.entry.op d.file d.entry.uses f.0).uses = subst (λ (x : Part). In u x.uses) f.1.1 rowless.0 in
         let on : (x : Use) → Bool = λ x. same (file_of x.field) f.0 in (
           In-filter on u d.entry.uses among,
           same_is (file_of u.field) f.0 (passing on d.entry.uses u among) ∙ ap (λ (x : Part). x.file) (sym f.1.1),
@@ -169,9 +183,9 @@ module _ (skew greatest k : ℕ) (c : Cluster) (s : Server) (at : slice_get c.se
     }
 
   -- its vote on a part of the operation is right
-  pub vote_fair : (p : Part) → In p (parts_in (lead_of d)) → (number : LeaseNo) (end now : ℕ)
+  pub vote_fair : (mode : Mode2) (p : Part) → In p (parts_in mode (lead_of d)) → (number : LeaseNo) (end now : ℕ)
       → vote_here s by p ≡ vote.Ended number end now → WasEnded c by number end now
-  vote_fair p i number end now v = was_ended p i number end now (voted_gone s by p number end now v)
+  vote_fair mode p i number end now v = was_ended mode p i number end now (voted_gone s by p number end now v)
 
 -- ## When it begins
 

@@ -45,6 +45,7 @@ use Rattle.fs_serial.proofs.DecidedEffects.OwnApart.{one_each}
 use Rattle.fs_serial.proofs.Lists.EachAt.{each_alone, each_same, nothing_of}
 use Rattle.fs_serial.proofs.Lists.SetAt.{In_without}
 use Rattle.fs_serial.proofs.Lists.Traffic.{messages}
+use Rattle.fs_serial.proofs.Moves.KeptPaths.{same_paths}
 use Rattle.fs_serial.proofs.Transactions.AwaitedWords.{IsAwaitedBy, done_awaited, done_is}
 use Rattle.fs_serial.proofs.Transactions.Desks.{is_at, is_still, was_at}
 use Rattle.fs_serial.proofs.Transactions.OneOfSession.{all_owed_due, due_both}
@@ -263,7 +264,7 @@ module _ (skew greatest k : ℕ) (c : Cluster) (s : Server) (at : slice_get c.se
         given = refl;
         reaps = refl;
         records = refl;
-        paths = refl;
+        paths = same_paths s.paths s.paths refl;
         rows = relocked;
         parcels = ap parcels_of flight ∙ parcels;
         decided = still_decided c.servers after led ended_before ∙ ap (decided_among c.servers) flight

@@ -22,6 +22,7 @@ use Rattle.fs_msg.specs.declared.peer_msg.PeerMsg.{PeerMsg}
 use Rattle.fs_msg.specs.declared.peer_msg.PeerMsg.TheVariants as peer
 use Rattle.fs_msg.specs.declared.prepare.Prepare.{Prepare as PrepareMsg}
 use Rattle.fs_msg.specs.declared.server_note.ServerNote.{ServerNote}
+use Rattle.fs_msg.specs.declared.server_note.ServerNote.TheVariants as note
 use Rattle.fs_server.specs.Concludes.{concludes, goes_on, waits}
 use Rattle.fs_server.specs.Follows.{after_decision, after_vote, applies, decide_step, prepare_step, ready_of, to_server, vote_here}
 use Rattle.fs_server.specs.LeadingLaws.{CommitSplits}
@@ -30,6 +31,7 @@ use Rattle.fs_server.specs.declared.event.ServerEvent.{ServerEvent}
 use Rattle.fs_server.specs.declared.event.ServerEvent.TheVariants as event
 use Rattle.fs_server.specs.declared.state.Server.{Server}
 use Rattle.fs_txn.specs.Leading.{with_leading, without_leading}
+use Rattle.fs_txn.specs.Ready.{is_awaited, without_prepared}
 use Rattle.fs_txn.specs.Votes.{is_full}
 use Rattle.fs_txn.specs.declared.leading.Leading.{Leading}
 use Rattle.fs_txn.specs.declared.ready.Ready.{Ready}
@@ -42,9 +44,11 @@ use Rattle.fs_serial.specs.Seen.{ClusterHolds}
 use Rattle.fs_serial.proofs.DecidedEffects.DecideSeen.{decide_stands}
 use Rattle.fs_serial.proofs.Transactions.SeenMeanwhile.{ends_same}
 use Rattle.fs_serial.proofs.Lists.SetAt.{In_without, get_here, set_twice}
+use Rattle.fs_serial.proofs.Moves.KeptPaths.{kept_alike, left_alike, pathless_still, same_paths}
 use Rattle.fs_serial.proofs.Transactions.AwaitedWords.{decide_awaited, prepare_awaited}
 use Rattle.fs_serial.proofs.Transactions.DecisionPlaces.{decided_places}
 use Rattle.fs_serial.proofs.Transactions.PlacesAfter.{locked_so, one_word, relocked_not, vote_names, word_taken}
+use Rattle.fs_serial.proofs.Transactions.Recalled.{no_recalls}
 use Rattle.fs_serial.proofs.Transactions.RoundsLocks.{sent_append}
 use Rattle.fs_serial.proofs.Transactions.StandsAfter.{all_stand}
 use Rattle.fs_serial.proofs.Transactions.Tables.{leading_set}
@@ -139,7 +143,7 @@ unchanged s = record {
   given = refl;
   reaps = refl;
   records = refl;
-  paths = refl;
+  paths = same_paths s.paths s.paths refl;
   ending = refl;
   rows = relocked_not s.rows;
 }
@@ -153,7 +157,7 @@ voted_rows vote.Yes x s = record {
   given = refl;
   reaps = refl;
   records = refl;
-  paths = refl;
+  paths = kept_alike x.txn x.part.freeze s.paths;
   ending = refl;
   rows = locked_so x.txn x.part.uses s.rows;
 }
@@ -167,12 +171,31 @@ voted_leading (vote.Ended l u n) x s = refl
 voted_leading (vote.Moved p to) x s = refl
 voted_leading (vote.PathsOut n) x s = refl
 
+-- the vote, and these messages
+abbrev pub answers_with : Vote → ℕ → PrepareMsg → List (Peer × Msg) → Server → Stepped
+answers_with v from m ms s = record {
+  server = after_vote v (ready_of m) s;
+  out = record {
+    note = note.Votes m.txn v;
+    send = to_server from (peer.Vote (record { txn = m.txn; number = m.number; vote = v })) ∷ ms;
+    admitted = [];
+  };
+}
+
 module _ (skew greatest k : ℕ) (c : Cluster) (s : Server) (at : slice_get c.servers k ≡ Some s) (h : ClusterHolds skew greatest c) where
   here : In s c.servers
   here = In-got c.servers k s at
 
   me : s.me ≡ k
   me = h.places.numbered k s at
+
+  -- no path is in the way, so the vote is all that is sent
+  pub votes_alone : (from : ℕ) (m : PrepareMsg) → IsThere k (event.FromPeer from (peer.Prepare m)) c
+      → prepare_step from m s ≡ answers_with (vote_here s m.session m.part) from m [] s
+  votes_alone from m comes =
+      let v : Vote = vote_here s m.session m.part in
+      prepare_awaited k from c s at h.led m comes
+      ∙ ap (λ ms. answers_with v from m ms s) (no_recalls s (h.pathless s here) v m.part)
 
   pub prepare_event : (from : ℕ) (m : PrepareMsg) → IsThere k (event.FromPeer from (peer.Prepare m)) c
       → ClusterHolds skew greatest (after_step k (event.FromPeer from (peer.Prepare m)) (prepare_step from m s) c)
@@ -185,7 +208,7 @@ module _ (skew greatest k : ℕ) (c : Cluster) (s : Server) (at : slice_get c.se
       let f : InFlight = record { from = from; to = k; message = peer.Prepare m } in
       let answer : PeerMsg = peer.Vote (record { txn = m.txn; number = m.number; vote = v }) in
       let ms : List (Peer × Msg) = to_server from answer ∷ [] in
-      let same = prepare_awaited k from c s at h.led m comes in
+      let same = votes_alone from m comes in
       subst (λ z. ClusterHolds skew greatest (after_step k (event.FromPeer from (peer.Prepare m)) z c)) (sym same)
       (quiet_stands skew greatest k c s t at h left ms c.lines (record {
         rows = voted_rows v x s;
@@ -213,5 +236,6 @@ module _ (skew greatest k : ℕ) (c : Cluster) (s : Server) (at : slice_get c.se
       ((all_keep_led skew greatest k c s at h).decided from m comes) in
       subst (λ z. ClusterHolds skew greatest (after_step k (event.FromPeer from (peer.Decide m)) z c)) (sym same)
       (all_stand skew greatest k c s at h (after_step k (event.FromPeer from (peer.Decide m)) (applies from m s) c)
-      (after_decision m s) refl refl (h.parts s here).0.clock (decided_places k c s at h.places h.led from m comes) (λ p. p) led
+      (after_decision m s) refl refl (h.parts s here).0.clock (decided_places k c s at h.places h.led from m comes)
+      (pathless_still s (after_decision m s) (left_alike (is_awaited m.txn (without_prepared m.txn m.number s.prepared)) m.txn s.paths)) led
       (decide_stands k from skew greatest c s at h m comes led) h.addressed)

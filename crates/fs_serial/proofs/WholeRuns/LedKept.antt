@@ -30,15 +30,17 @@ use Rattle.fs_client.specs.declared.state.Client.{Client}
 use Rattle.fs_server.specs.Begins.{Round, leader_with, round_of, txn_of}
 use Rattle.fs_server.specs.Concludes.{waits}
 use Rattle.fs_server.specs.Counts.{after_own_vote, asked_at, done_step, seeks, with_vote}
-use Rattle.fs_server.specs.Follows.{decide_step, prepare_step, vote_here}
-use Rattle.fs_server.specs.Leads.{is_led, lead_refusal}
+use Rattle.fs_server.specs.Follows.{decide_step, prepare_step, recalls_for, vote_here}
+use Rattle.fs_server.specs.Leads.{is_led, lead_refusal, mode_of}
 use Rattle.fs_server.specs.Server.{Stepped, is_mine}
 use Rattle.fs_server.specs.declared.event.ServerEvent.TheVariants as event
 use Rattle.fs_server.specs.declared.state.Server.{Server}
+use Rattle.fs_server.proofs.Leading.{none_refuses}
 use Rattle.fs_txn.specs.Leading.{leading_of}
 use Rattle.fs_txn.specs.Votes.{awaits, is_full, is_moved}
 use Rattle.fs_txn.specs.Deciding.{first_end}
 use Rattle.fs_txn.specs.declared.leading.Leading.{Leading}
+use Rattle.fs_txn.specs.declared.mode.Mode2.{Mode2}
 use Rattle.fs_serial.specs.Cluster.{Cluster, IsThere, after_step, is_with}
 use Rattle.fs_serial.specs.Conclusions.{after_concluded}
 use Rattle.fs_serial.specs.Exchange.{IsQuestion, IsToBeLed, OneExchange, asked_server, server_of_question}
@@ -57,6 +59,7 @@ use Rattle.fs_serial.proofs.Transactions.LedDone.{led_done}
 use Rattle.fs_serial.proofs.Transactions.LedPrepared.{OneEach, led_prepared}
 use Rattle.fs_serial.proofs.Transactions.OneOwner.{none_its, only_its}
 use Rattle.fs_serial.proofs.Transactions.Undecided.{up_asked}
+use Rattle.fs_serial.proofs.Transactions.PartsApart.{mode_needs_none}
 use Rattle.fs_serial.proofs.Transactions.YesesStand.{session_stands}
 
 -- what comes of a server's event of a transaction, or of its decision, is as all that holds of transactions has it
@@ -74,7 +77,8 @@ pub record KeepLed (k : ℕ) (c : Cluster) (s : Server) : Type 0 where
       → leading_of m.txn s.leading ≡ Some l → awaits l.leader m.number ≡ true → is_moved m.vote ≡ true
       → slice_get l.leader.parts m.number ≡ Some p → is_mine s p.file ≡ true
       → LedHolds (after_step k (event.FromPeer from (peer.Vote m))
-      (waits n (with_vote m.number (vote_here s l.leader.session p) (asked_at m.number s.me l)) []
+      (waits n (with_vote m.number (vote_here s l.leader.session p) (asked_at m.number s.me l))
+      (recalls_for (vote_here s l.leader.session p) s p)
       (after_own_vote l.leader.txn p (vote_here s l.leader.session p) s)) c)
   -- a part is asked for at another server
   pub sought : (from : ℕ) (m : VotedMsg) → IsThere k (event.FromPeer from (peer.Vote m)) c → (l : Leading) (p : Part) (to : ℕ)
@@ -84,9 +88,10 @@ pub record KeepLed (k : ℕ) (c : Cluster) (s : Server) : Type 0 where
   pub done : (from : ℕ) (m : DoneMsg) → IsThere k (event.FromPeer from (peer.Done m)) c
       → LedHolds (after_step k (event.FromPeer from (peer.Done m)) (done_step m s) c)
   pub begun : (by : Session) (m : ToLead) → IsThere k (event.FromClient by (Lead m)) c → lead_refusal s m ≡ None
-      → let r : Round = round_of by m s in
+      → let mode : Mode2 = mode_of m.op m.kind in
+      let r : Round = round_of mode by m s in
       LedHolds (after_step k (event.FromClient by (Lead m))
-      (waits (note.Prepares (txn_of s)) (record { leader = leader_with (txn_of s) by m r.votes; at = r.at }) r.send r.server) c)
+      (waits (note.Prepares (txn_of s)) (record { leader = leader_with mode (txn_of s) by m r.votes; at = r.at }) r.send r.server) c)
   pub concluded : (l : Leading) → leading_of l.leader.txn s.leading ≡ Some l → is_full l.leader.votes ≡ true
       → LedHolds (after_concluded k l s c)
 
@@ -164,7 +169,8 @@ module _ (skew greatest k : ℕ) (c : Cluster) (s : Server) (at : slice_get c.se
       → leading_of m.txn s.leading ≡ Some l → awaits l.leader m.number ≡ true → is_moved m.vote ≡ true
       → slice_get l.leader.parts m.number ≡ Some p → is_mine s p.file ≡ true
       → LedHolds (after_step k (event.FromPeer from (peer.Vote m))
-      (waits n (with_vote m.number (vote_here s l.leader.session p) (asked_at m.number s.me l)) []
+      (waits n (with_vote m.number (vote_here s l.leader.session p) (asked_at m.number s.me l))
+      (recalls_for (vote_here s l.leader.session p) s p)
       (after_own_vote l.leader.txn p (vote_here s l.leader.session p) s)) c)
   own from m comes l p n leads waited moved part mine =
       let q = moved_where m.vote moved in
@@ -183,7 +189,7 @@ module _ (skew greatest k : ℕ) (c : Cluster) (s : Server) (at : slice_get c.se
     up : (ends_in c by).up ≡ Lead m ∷ []
     up = up_asked skew greatest c s here h by k m comes
 
-    asked : IsToBeLed (c.lines by).client.led m
+    pub asked : IsToBeLed (c.lines by).client.led m
     asked = ((h.parts s here).0.exchanges by).leads m (subst (In (Lead m)) (sym up) (inl refl))
 
     waits_here : IsLedBy c.lines by k asked.led
@@ -194,12 +200,15 @@ module _ (skew greatest k : ℕ) (c : Cluster) (s : Server) (at : slice_get c.se
           ((h.addressed by).up (k, Lead m) (found (is_with k) (c.lines by).up (k, Lead m) comes).0);
     }
 
-    begun : let r : Round = round_of by m s in
+    begun : let mode : Mode2 = mode_of m.op m.kind in
+        let r : Round = round_of mode by m s in
         LedHolds (after_step k (event.FromClient by (Lead m))
-        (waits (note.Prepares (txn_of s)) (record { leader = leader_with (txn_of s) by m r.votes; at = r.at }) r.send r.server) c)
+        (waits (note.Prepares (txn_of s)) (record { leader = leader_with mode (txn_of s) by m r.votes; at = r.at }) r.send r.server) c)
     begun =
-        led_begun k c s at by m h.led me h.places.numbered ordered (none_its c h.led k s at one by m comes) asked.led waits_here asked.told
-        accepted (begun_plain k skew greatest c s at h by m asked.led comes asked.is accepted)
+        led_begun (mode_of m.op m.kind) k c s at by m h.led me h.places.numbered ordered (none_its c h.led k s at one by m comes) asked.led
+        waits_here asked.told accepted
+        (begun_plain (mode_of m.op m.kind) k skew greatest c s at h by m asked.led comes asked.is accepted)
+        (mode_needs_none m s (none_refuses s m accepted).1)
 
   pub all_keep_led : KeepLed k c s
   all_keep_led = record {

@@ -1,5 +1,5 @@
 -- A session asks for an operation to be led, and it is led or put off: all that holds of the cluster stays.
-use Rattle.std.proofs.Common.{◌≡◌, ◌<◌, ◌+◌, ℕ, true, false, List, [], ◌∷◌, ◌++◌, refl, sym, ap, ◌∙◌, subst}
+use Rattle.std.proofs.Common.{◌≡◌, ◌<◌, ◌+◌, ℕ, true, false, List, [], ◌∷◌, ◌++◌, append-nil, refl, sym, ap, ◌∙◌, subst}
 use Rattle.std.specs.Prelude.{Option, Some, None, length, slice_get, slice_set}
 use Rattle.std.proofs.lemmas.Grind.{flat_map-append}
 use Rattle.fs_ident.specs.declared.actor.Peer.{Peer}
@@ -13,12 +13,13 @@ use Rattle.fs_msg.specs.declared.client_msg.ClientMsg.TheVariants.{Lead}
 use Rattle.fs_msg.specs.declared.lead.Lead.{Lead as ToLead}
 use Rattle.fs_msg.specs.declared.msg.Msg.{Msg}
 use Rattle.fs_msg.specs.declared.server_note.ServerNote.TheVariants as note
+use Rattle.fs_path.specs.Tables.{PathTables}
 use Rattle.fs_record.specs.declared.led_end.Why.{Why}
 use Rattle.fs_server.specs.Begins.{Round, first_round, leader_with, part_round, parts_in, round_of, rounds, txn_of}
-use Rattle.fs_server.specs.Counts.{ask_for}
+use Rattle.fs_server.specs.Counts.{after_own_vote, ask_for}
 use Rattle.fs_server.specs.Follows.{to_server, vote_here}
 use Rattle.fs_server.specs.LeadingLaws.{CommitSplits}
-use Rattle.fs_server.specs.Leads.{lead_refusal, refuses, leads_unless, is_led}
+use Rattle.fs_server.specs.Leads.{lead_refusal, refuses, leads_unless, is_led, mode_of}
 use Rattle.fs_server.specs.Concludes.{waits}
 use Rattle.fs_server.specs.Server.{Stepped, is_mine}
 use Rattle.fs_server.specs.declared.event.ServerEvent.{ServerEvent}
@@ -26,6 +27,7 @@ use Rattle.fs_server.specs.declared.event.ServerEvent.TheVariants as event
 use Rattle.fs_server.specs.declared.state.Server.{Server}
 use Rattle.fs_txn.specs.Leading.{with_leading}
 use Rattle.fs_txn.specs.declared.leading.Leading.{Leading}
+use Rattle.fs_txn.specs.declared.mode.Mode2.{Mode2}
 use Rattle.fs_serial.proofs.LedOperations.LedSteps.{led_stands, to_lead}
 use Rattle.fs_serial.proofs.Transactions.SeenMeanwhile.{asked_up}
 use Rattle.fs_serial.proofs.Transactions.StandsAfter.{ones, view}
@@ -33,12 +35,14 @@ use Rattle.fs_serial.specs.Cluster.{Cluster, InFlight, IsThere, after_step, in_f
 use Rattle.fs_serial.specs.Decided.{WorldStands}
 use Rattle.fs_serial.specs.Led.{LedStands}
 use Rattle.fs_serial.specs.Owed.{ends_with, ends_in}
-use Rattle.fs_serial.specs.Seen.{ClusterHolds, IsAddressed, world_of}
+use Rattle.fs_serial.specs.Seen.{ClusterHolds, HasNoPaths, IsAddressed, world_of}
 use Rattle.fs_serial.specs.Words.{decided_among, decided_by}
+use Rattle.fs_serial.proofs.Moves.KeptPaths.{SamePaths, pathless_still, same_paths, then_same, voted_alike}
 use Rattle.fs_serial.proofs.Moves.Parcels.{parcels-append}
 use Rattle.fs_serial.proofs.Transactions.PlacesAfter.{AreRelocked, AreWords, both_words, no_words}
 use Rattle.fs_serial.proofs.Transactions.PlacesAfter.{one_word, relocked_not, relocked_then, voted_so}
 use Rattle.fs_serial.proofs.Transactions.PutOff.{put_off_keeps}
+use Rattle.fs_serial.proofs.Transactions.Recalled.{no_recalls}
 use Rattle.fs_serial.proofs.Transactions.RoundsLocks.{round_by, sent_append}
 use Rattle.fs_serial.proofs.Transactions.RoundsStages.{rounds_lines, rounds_server}
 use Rattle.fs_serial.proofs.WholeRuns.Addressing.{taken_addressed}
@@ -69,18 +73,35 @@ asks_more k servers to txn number by p ms below q =
       ),
     )
 
+-- no path is in the way of a part
 rounds_ask : (k servers : ℕ) (txn : TxnNo) (number : ℕ) (by : Session) (ps : List Part) (r : Round)
-    → ((id : List ℕ) → server_of r.server.map id < servers) → IsAsking k servers r.send
+    → ((id : List ℕ) → server_of r.server.map id < servers) → HasNoPaths r.server → IsAsking k servers r.send
     → IsAsking k servers (rounds txn number by ps r).send
-rounds_ask k servers txn number by [] r named q = q
-rounds_ask k servers txn number by (p ∷ ps) r named q = rounds_ask k servers txn (number + 1) by ps (part_round txn number by p r)
+rounds_ask k servers txn number by [] r named none q = q
+rounds_ask k servers txn number by (p ∷ ps) r named none q = rounds_ask k servers txn (number + 1) by ps (part_round txn number by p r)
     (elim (is_mine r.server p.file) as (λ b. (id : List ℕ) → server_of (round_by txn number by p r b).server.map id < servers) [
       | true ↦ named
       | false ↦ named
     ])
+    (elim (is_mine r.server p.file) as (λ b. HasNoPaths (round_by txn number by p r b).server) [
+      | true ↦ pathless_still r.server (after_own_vote txn p (vote_here r.server by p) r.server)
+          (voted_alike (vote_here r.server by p) txn p.freeze r.server.paths) none
+      | false ↦ none
+    ])
     (elim (is_mine r.server p.file) as (λ b. IsAsking k servers (round_by txn number by p r b).send) [
-      | true ↦ q
+      | true ↦ subst (IsAsking k servers) (sym (append-nil r.send)
+          ∙ ap (λ ms. r.send ++ ms) (sym (no_recalls r.server none (vote_here r.server by p) p))) q
       | false ↦ asks_more k servers (server_of r.server.map p.file) txn number by p r.send (named p.file) q
+    ])
+
+-- no path is given out or held by it
+pub rounds_paths : (txn : TxnNo) (number : ℕ) (by : Session) (ps : List Part) (r : Round) (old : PathTables) → SamePaths old r.server.paths
+    → SamePaths old (rounds txn number by ps r).server.paths
+rounds_paths txn number by [] r old q = q
+rounds_paths txn number by (p ∷ ps) r old q = rounds_paths txn (number + 1) by ps (part_round txn number by p r) old
+    (elim (is_mine r.server p.file) as (λ b. SamePaths old (round_by txn number by p r b).server.paths) [
+      | true ↦ then_same q (voted_alike (vote_here r.server by p) txn p.freeze r.server.paths)
+      | false ↦ q
     ])
 
 pub rounds_relock : (txn : TxnNo) (number : ℕ) (by : Session) (ps : List Part) (r : Round) (rows : List Row) → AreRelocked rows r.server.rows
@@ -109,24 +130,27 @@ module _ (skew greatest k : ℕ) (c : Cluster) (s : Server) (at : slice_get c.se
       let stands : LedStands s.skew greatest (sight_in w) by (settled_at by (w.ends by)) l = led_stands greatest w by m up now.0 in
       ap (λ (n : ToLead). is_led n.op) (to_lead greatest w by m up now.0).told ∙ led_op l.entry.op l.entry.reply stands.leads
 
+  abbrev pub mode : Mode2
+  mode = mode_of m.op m.kind
+
   abbrev pub r : Round
-  r = round_of by m s
+  r = round_of mode by m s
 
   abbrev pub new : Leading
-  new = record { leader = leader_with (txn_of s) by m r.votes; at = r.at }
+  new = record { leader = leader_with mode (txn_of s) by m r.votes; at = r.at }
 
   abbrev pub first : Stepped
   first = waits (note.Prepares (txn_of s)) new r.send r.server
 
-  pub left : r.server ≡ (let z : Server = record s { txns = s.txns + 1; rows = r.server.rows } in z)
-  left = rounds_server (txn_of s) 0 by (parts_in m) (first_round s)
+  pub left : r.server ≡ (let z : Server = record s { txns = s.txns + 1; rows = r.server.rows; paths = r.server.paths } in z)
+  left = rounds_server (txn_of s) 0 by (parts_in mode m) (first_round s)
 
   pub asks : IsAsking k (length c.servers) r.send
-  asks = rounds_ask k (length c.servers) (txn_of s) 0 by (parts_in m) (first_round s) (h.places.named s (In-got c.servers k s at))
-      (no_words (length c.servers), (refl, λ ss. refl))
+  asks = rounds_ask k (length c.servers) (txn_of s) 0 by (parts_in mode m) (first_round s) (h.places.named s (In-got c.servers k s at))
+      (h.pathless s (In-got c.servers k s at)) (no_words (length c.servers), (refl, λ ss. refl))
 
   still : with_sent k r.send (without_question k e c.lines) ≡ without_question k e c.lines
-  still = rounds_lines k (txn_of s) 0 by (parts_in m) (first_round s) (without_question k e c.lines) refl
+  still = rounds_lines k (txn_of s) 0 by (parts_in mode m) (first_round s) (without_question k e c.lines) refl
 
   pub begun : lead_refusal s m ≡ None → ClusterHolds skew greatest (after_step k e first c)
   begun accepted =
@@ -139,9 +163,9 @@ module _ (skew greatest k : ℕ) (c : Cluster) (s : Server) (at : slice_get c.se
           given = ap (λ (z : Server). z.given) left;
           reaps = ap (λ (z : Server). z.reaps) left;
           records = ap (λ (z : Server). z.records) left;
-          paths = ap (λ (z : Server). z.paths) left;
+          paths = rounds_paths (txn_of s) 0 by (parts_in mode m) (first_round s) s.paths (same_paths s.paths s.paths refl);
           ending = ap (λ (z : Server). z.ending) left;
-          rows = rounds_relock (txn_of s) 0 by (parts_in m) (first_round s) s.rows (relocked_not s.rows);
+          rows = rounds_relock (txn_of s) 0 by (parts_in mode m) (first_round s) s.rows (relocked_not s.rows);
         };
         parcels = refl;
         decided = refl;

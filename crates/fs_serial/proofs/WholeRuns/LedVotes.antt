@@ -18,7 +18,8 @@ use Rattle.fs_msg.specs.declared.voted.Voted.{Voted as VotedMsg}
 use Rattle.fs_server.specs.Concludes.{waits}
 use Rattle.fs_server.specs.Counts.{after_own_vote, ask_for, asked_at, comes_home, counts}
 use Rattle.fs_server.specs.Counts.{counts_own, seeks, sent_on, vote_step, voted, with_vote}
-use Rattle.fs_server.specs.Follows.{to_server, vote_here}
+use Rattle.fs_path.specs.Tables.{PathTables}
+use Rattle.fs_server.specs.Follows.{recalls_for, to_server, vote_here}
 use Rattle.fs_server.specs.LeadingLaws.{CommitSplits}
 use Rattle.fs_server.specs.Server.{is_mine}
 use Rattle.fs_server.specs.declared.event.ServerEvent.{ServerEvent}
@@ -35,9 +36,11 @@ use Rattle.fs_serial.specs.Places.{VoteNames}
 use Rattle.fs_serial.specs.Seen.{ClusterHolds, IsAddressed}
 use Rattle.fs_serial.specs.Words.{decided_among}
 use Rattle.fs_serial.proofs.Lists.SetAt.{In_without}
+use Rattle.fs_serial.proofs.Moves.KeptPaths.{SamePaths, same_paths, voted_alike}
 use Rattle.fs_serial.proofs.Transactions.AwaitedWords.{IsAwaited, vote_awaited, vote_is}
 use Rattle.fs_serial.proofs.Transactions.PlacesAfter.{AreRelocked, AreWords, names_there}
 use Rattle.fs_serial.proofs.Transactions.PlacesAfter.{no_words, one_word, relocked_not, voted_so, word_taken}
+use Rattle.fs_serial.proofs.Transactions.Recalled.{no_recalls, recalls_answer_nothing, recalls_decide_nothing, recalls_hand_nothing}
 use Rattle.fs_serial.proofs.WholeRuns.LedEnds.{asked_still}
 use Rattle.fs_serial.proofs.WholeRuns.LedEvents.{goes_on_keeps}
 use Rattle.fs_serial.proofs.WholeRuns.LedKept.{all_keep_led}
@@ -61,17 +64,18 @@ module _ (skew greatest k : ℕ) (c : Cluster) (s : Server) (at : slice_get c.se
   l = q.leading
 
   -- it waits then
-  module _ (votes : Votes) (places : List ℕ) (rows : List Row) (relocked : AreRelocked s.rows rows) (n : ServerNote)
-      (ms : List (Peer × Msg)) (words : AreWords (length c.servers) ms) (none : parcels_of (in_flight_from k ms) ≡ [])
+  module _ (votes : Votes) (places : List ℕ) (rows : List Row) (relocked : AreRelocked s.rows rows) (paths : PathTables)
+      (same : SamePaths s.paths paths) (n : ServerNote) (ms : List (Peer × Msg)) (words : AreWords (length c.servers) ms)
+      (none : parcels_of (in_flight_from k ms) ≡ [])
       (undecided : (ss : List Server) → decided_among ss (in_flight_from k ms) ≡ []) (still : with_sent k ms c.lines ≡ c.lines) where
     abbrev new : Leading
     new = record { leader = record l.leader { votes = votes }; at = places }
 
     abbrev t : Server
-    t = record s { rows = rows; leading = with_leading new s.leading }
+    t = record s { rows = rows; leading = with_leading new s.leading; paths = paths }
 
-    waits_stands : LedHolds (after_step k e (waits n new ms (record s { rows = rows })) c)
-        → ClusterHolds skew greatest (after_step k e (waits n new ms (record s { rows = rows })) c)
+    waits_stands : LedHolds (after_step k e (waits n new ms (record s { rows = rows; paths = paths })) c)
+        → ClusterHolds skew greatest (after_step k e (waits n new ms (record s { rows = rows; paths = paths })) c)
     waits_stands led =
         quiet_stands skew greatest k c s t at h (without_first (is_between from k) c.in_flight) ms (with_sent k ms c.lines) (record {
           rows = record {
@@ -82,7 +86,7 @@ module _ (skew greatest k : ℕ) (c : Cluster) (s : Server) (at : slice_get c.se
             given = refl;
             reaps = refl;
             records = refl;
-            paths = refl;
+            paths = same;
             ending = refl;
             rows = relocked;
           };
@@ -101,8 +105,8 @@ module _ (skew greatest k : ℕ) (c : Cluster) (s : Server) (at : slice_get c.se
   pub counted_waits : is_moved m.vote ≡ false
       → ClusterHolds skew greatest (after_step k e (waits (note.Waits l.leader.txn) (with_vote m.number m.vote l) [] s) c)
   counted_waits stays =
-      waits_stands (votes_after l.leader.votes m.number m.vote) l.at s.rows (relocked_not s.rows) (note.Waits l.leader.txn) []
-      (no_words (length c.servers)) refl (λ ss. refl) refl
+      waits_stands (votes_after l.leader.votes m.number m.vote) l.at s.rows (relocked_not s.rows) s.paths (same_paths s.paths s.paths refl)
+      (note.Waits l.leader.txn) [] (no_words (length c.servers)) refl (λ ss. refl) refl
       ((all_keep_led skew greatest k c s at h).counted from m comes l (note.Waits l.leader.txn) q.led q.awaited stays)
 
   counted : is_moved m.vote ≡ false → ClusterHolds skew greatest (after_step k e (counts m.number m.vote l s) c)
@@ -114,7 +118,8 @@ module _ (skew greatest k : ℕ) (c : Cluster) (s : Server) (at : slice_get c.se
     sought : (to : ℕ) → (to == s.me) ≡ false → to < length c.servers
         → ClusterHolds skew greatest (after_step k e (seeks m.number to p l s) c)
     sought to off below =
-        waits_stands l.leader.votes (slice_set l.at m.number to) s.rows (relocked_not s.rows) (note.Seeks l.leader.txn to)
+        waits_stands l.leader.votes (slice_set l.at m.number to) s.rows (relocked_not s.rows) s.paths
+        (same_paths s.paths s.paths refl) (note.Seeks l.leader.txn to)
         (to_server to (ask_for l.leader.txn m.number l.leader.session p) ∷ [])
         (one_word (length c.servers) to (ask_for l.leader.txn m.number l.leader.session p)
         (record { there = below; names = tt; word = refl })) refl (λ ss. refl) refl
@@ -124,20 +129,24 @@ module _ (skew greatest k : ℕ) (c : Cluster) (s : Server) (at : slice_get c.se
     own_vote = vote_here s l.leader.session p
 
     pub own_waits : is_mine s p.file ≡ true → ClusterHolds skew greatest (after_step k e
-        (waits (note.Waits l.leader.txn) (with_vote m.number own_vote (asked_at m.number s.me l)) []
+        (waits (note.Waits l.leader.txn) (with_vote m.number own_vote (asked_at m.number s.me l)) (recalls_for own_vote s p)
         (after_own_vote l.leader.txn p own_vote s)) c)
     own_waits mine =
         let v : Vote = own_vote in
         waits_stands (votes_after l.leader.votes m.number v) (slice_set l.at m.number s.me)
-        (after_own_vote l.leader.txn p v s).rows (voted_so v l.leader.txn p.uses s.rows) (note.Waits l.leader.txn) []
-        (no_words (length c.servers)) refl (λ ss. refl) refl
+        (after_own_vote l.leader.txn p v s).rows (voted_so v l.leader.txn p.uses s.rows)
+        (after_own_vote l.leader.txn p v s).paths (voted_alike v l.leader.txn p.freeze s.paths) (note.Waits l.leader.txn)
+        (recalls_for v s p)
+        (subst (AreWords (length c.servers)) (sym (no_recalls s (h.pathless s here) v p)) (no_words (length c.servers)))
+        (recalls_hand_nothing k v s p) (λ ss. recalls_decide_nothing ss k v s p) (recalls_answer_nothing k v s p c.lines)
         ((all_keep_led skew greatest k c s at h).own from m comes l p (note.Waits l.leader.txn) q.led q.awaited moved part mine)
 
     own : is_mine s p.file ≡ true
         → ClusterHolds skew greatest (after_step k e (counts_own m.number p (vote_here s l.leader.session p) l s) c)
     own mine =
         goes_on_keeps skew greatest k c s at e (λ items replied. refl) splits (note.Waits l.leader.txn)
-        (with_vote m.number own_vote (asked_at m.number s.me l)) [] (after_own_vote l.leader.txn p own_vote s) (own_waits mine)
+        (with_vote m.number own_vote (asked_at m.number s.me l)) (recalls_for own_vote s p) (after_own_vote l.leader.txn p own_vote s)
+        (own_waits mine)
 
     home : (b : Bool) → is_mine s p.file ≡ b → ClusterHolds skew greatest (after_step k e
         (cond b (counts_own m.number p (vote_here s l.leader.session p) l s) (seeks m.number (server_of s.map p.file) p l s)) c)

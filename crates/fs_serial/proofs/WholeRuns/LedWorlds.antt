@@ -37,7 +37,7 @@ use Rattle.fs_serial.proofs.DecidedEffects.ToldParts.{IsPutIn}
 use Rattle.fs_serial.proofs.Lists.Traffic.{IsTaken, taken_first}
 use Rattle.fs_serial.proofs.Moves.Parcels.{parcels-append}
 use Rattle.fs_serial.proofs.Places.RelockedRows.{home_relock, rows_relocked}
-use Rattle.fs_serial.proofs.Moves.KeptPaths.{pathless_still}
+use Rattle.fs_serial.proofs.Moves.KeptPaths.{SamePaths, pathless_still}
 use Rattle.fs_serial.proofs.Returns.Lapsing.{same_records}
 use Rattle.fs_serial.proofs.Transactions.DecidedStill.{decided_same, ended_set}
 use Rattle.fs_serial.proofs.Transactions.PlacesAfter.{AreRelocked, AreWords, StaysHome, places_stepped}
@@ -53,7 +53,7 @@ pub record OnlyRelocks (k : ℕ) (s t : Server) (c after : Cluster) : Type 0 whe
   pub given : t.given ≡ s.given
   pub reaps : t.reaps ≡ s.reaps
   pub records : t.records ≡ s.records
-  pub paths : t.paths ≡ s.paths
+  pub paths : SamePaths s.paths t.paths
   pub rows : AreRelocked s.rows t.rows
   pub parcels : parcels_of after.in_flight ≡ parcels_of c.in_flight
   pub decided : decided_in after ≡ decided_in c
@@ -144,7 +144,7 @@ undecided_taken ss is fs f e none =
 
 -- ## A step in which sessions are told nothing
 
--- of the server rows are locked and unlocked, and what it leads changes
+-- of the server rows are locked and unlocked, files are kept, and what it leads changes
 pub record OnlyRows (s t : Server) : Type 0 where
   pub me : t.me ≡ s.me
   pub map : t.map ≡ s.map
@@ -153,7 +153,7 @@ pub record OnlyRows (s t : Server) : Type 0 where
   pub given : t.given ≡ s.given
   pub reaps : t.reaps ≡ s.reaps
   pub records : t.records ≡ s.records
-  pub paths : t.paths ≡ s.paths
+  pub paths : SamePaths s.paths t.paths
   pub ending : t.ending ≡ s.ending
   pub rows : AreRelocked s.rows t.rows
 

@@ -22,8 +22,8 @@ use Rattle.fs_parcel.specs.declared.error.MoveError.TheVariants as move
 use Rattle.fs_record.specs.Effects.{tells_its_effects}
 use Rattle.fs_record.specs.declared.led_end.Why.{Why}
 use Rattle.fs_server.proofs.Splitting.{commit_splits}
-use Rattle.fs_server.specs.Begins.{leader_with, round_of, txn_of}
-use Rattle.fs_server.specs.Leads.{lead_refusal, leads_unless}
+use Rattle.fs_server.specs.Begins.{Round, leader_with, round_of, txn_of}
+use Rattle.fs_server.specs.Leads.{lead_refusal, leads_unless, mode_of}
 use Rattle.fs_server.specs.Moves.{fits_here, move_at, parcel_at}
 use Rattle.fs_server.specs.Reaps.{lapsed_in, turn_over}
 use Rattle.fs_server.specs.Server.{begun, strange}
@@ -74,10 +74,15 @@ module _ (skew greatest k : ℕ) (c : Cluster) (s : Server) (at : slice_get c.se
   now : WorldStands greatest (world_of s c)
   now = view skew greatest k c s at h
 
+  abbrev round : Session → ToLead → Round
+  round by m = round_of (mode_of m.op m.kind) by m s
+
   leads_note : (o : Option Why) (by : Session) (m : ToLead) → (leads_unless o by m s).out.note ≢ Strange
-  leads_note None by m = goes_on_known (note.Prepares (txn_of s))
-      (let l : Leading = record { leader = leader_with (txn_of s) by m (round_of by m s).votes; at = (round_of by m s).at } in l)
-      (round_of by m s).send (round_of by m s).server (λ e. absurd (cc))
+  leads_note None by m =
+      let r : Round = round by m in
+      goes_on_known (note.Prepares (txn_of s))
+      (let l : Leading = record { leader = leader_with (mode_of m.op m.kind) (txn_of s) by m r.votes; at = r.at } in l) r.send r.server
+      (λ e. absurd (cc))
   leads_note (Some w) by m = λ e. absurd (cc)
 
   message_note : (by : Session) (m : ClientMsg) → IsThere k (event.FromClient by m) c → (message_step by m s).out.note ≢ Strange

@@ -103,3 +103,110 @@ fn a_part_is_refused(rt: HostRuntime) -> Result<(), Fail> {
         REFUSES,
     )
 }
+
+const WANTS_PATH: &str =
+    "ServerOut { note: PathDenies { why: Wanted { file: FileId { numbers: [1] } } }, send: List { items: [(Server(2), Peer(PathNo { \
+    file: FileId { numbers: [1, 1] }, why: Wanted { file: FileId { numbers: [1] } } })), (Server(0), Peer(PathAsk { file: FileId { \
+    numbers: [1] }, parent: FileId { numbers: [] } }))] }, admitted: List { items: [] } }";
+
+const PATH_OUT: &str =
+    "ServerOut { note: Votes { txn: TxnNo { server: 0, count: 1 }, vote: PathsOut { no: PathNo { server: 1, count: 1 } } }, send: \
+    List { items: [(Server(0), Peer(Vote { voted: Voted { txn: TxnNo { server: 0, count: 1 }, number: 1, vote: PathsOut { no: \
+    PathNo { server: 1, count: 1 } } } })), (Server(2), Peer(PathRecall { no: PathNo { server: 1, count: 1 } }))] }, admitted: List \
+    { items: [] } }";
+
+const KEPT: &str =
+    "PathDenies { why: Frozen { file: FileId { numbers: [1] }, txn: TxnNo { server: 0, count: 1 } } }";
+
+const YES_TO_GO: &str = "Votes { txn: TxnNo { server: 0, count: 1 }, vote: Yes }";
+
+const DECIDED: &str = "Applies { txn: TxnNo { server: 0, count: 1 } }";
+
+const OVER: &str =
+    "ServerOut { note: Votes { txn: TxnNo { server: 0, count: 1 }, vote: Ended { lease: LeaseNo { server: 0, count: 3 }, until: \
+    100, now: 200 } }, send: List { items: [(Server(0), Peer(Vote { voted: Voted { txn: TxnNo { server: 0, count: 1 }, number: 1, \
+    vote: Ended { lease: LeaseNo { server: 0, count: 3 }, until: 100, now: 200 } } }))] }, admitted: List { items: [] } }";
+
+/// A directory that is to go: where a path leads over it, that is asked back; else it is kept until its last part is decided, and no path
+/// over it is given out. Where its lease is over, no path is asked back.
+const TO_GO: &[Line] = &[
+    (
+        7,
+        Event::Peer(0, said::DIR_PARCEL),
+        Seen::Note,
+        "Installs { prefix: FileId { numbers: [1] } }",
+    ),
+    (
+        8,
+        Event::Peer(2, said::PATH_ASK_BELOW),
+        Seen::All,
+        WANTS_PATH,
+    ),
+    (
+        9,
+        Event::Peer(0, said::PATH_OF_DIR),
+        Seen::Note,
+        "PathHolds { no: PathNo { server: 0, count: 1 } }",
+    ),
+    (
+        10,
+        Event::Peer(2, said::PATH_ASK_BELOW),
+        Seen::Note,
+        "PathGrants { no: PathNo { server: 1, count: 1 } }",
+    ),
+    (11, Event::Peer(0, said::PREPARE_TO_GO), Seen::All, PATH_OUT),
+    (12, Event::Peer(0, said::DECIDE_NONE), Seen::Note, "Strange"),
+    (
+        13,
+        Event::Peer(2, said::PATH_BELOW_BACK),
+        Seen::Note,
+        "PathBack { no: PathNo { server: 1, count: 1 } }",
+    ),
+    (
+        14,
+        Event::Peer(0, said::PREPARE_TO_GO),
+        Seen::Note,
+        YES_TO_GO,
+    ),
+    (15, Event::Peer(2, said::PATH_ASK_BELOW), Seen::Note, KEPT),
+    (
+        16,
+        Event::Peer(0, said::PREPARE_TO_GO_TOO),
+        Seen::Note,
+        YES_TO_GO,
+    ),
+    (17, Event::Peer(0, said::DECIDE_NONE), Seen::Note, DECIDED),
+    (18, Event::Peer(2, said::PATH_ASK_BELOW), Seen::Note, KEPT),
+    (
+        19,
+        Event::Peer(0, said::DECIDE_NONE_TOO),
+        Seen::Note,
+        DECIDED,
+    ),
+    (
+        20,
+        Event::Peer(2, said::PATH_ASK_BELOW),
+        Seen::Note,
+        "PathGrants { no: PathNo { server: 1, count: 2 } }",
+    ),
+    (200, Event::Peer(0, said::PREPARE_TO_GO), Seen::All, OVER),
+];
+
+#[test]
+fn a_directory_is_kept_until_its_last_part_is_decided(rt: HostRuntime) -> Result<(), Fail> {
+    let alloc = rt.alloc();
+    plays_on(
+        &rt,
+        alloc,
+        ServerCore::new(alloc, 1, 10, 100)?,
+        Way::AtOnce,
+        TO_GO,
+    )?;
+    plays_on(
+        &rt,
+        alloc,
+        ServerCore::new(alloc, 1, 10, 100)?,
+        Way::Planned,
+        TO_GO,
+    )
+}

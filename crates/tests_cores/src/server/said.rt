@@ -230,3 +230,61 @@ pub(crate) const DONE_OF_DIR: &[u8] = &[36, 0, 0, 0, 0, 0, 0, 0, 0, 1, 1];
 
 /// What the third part had to do is done.
 pub(crate) const DONE_OF_FILE: &[u8] = &[36, 0, 0, 0, 0, 0, 0, 0, 0, 1, 2];
+
+/// To lead the rename of `f`, the directory 1/1, from the directory 1 to `g` in the root.
+pub(crate) const LEAD_DIR_INTO_ROOT: &[u8] = &[
+    5, 0, 0, 0, 0, 0, 0, 0, 3, 9, 80, 1, 102, 128, 1, 103, 120, 1, 0, 0, 0, 0, 0, 0, 0, 0,
+];
+
+/// For the path of the directory 1 in the root.
+pub(crate) const PATH_ASK: &[u8] = &[38, 80, 128];
+
+/// For the path of the file 1/1 in the directory 1.
+pub(crate) const PATH_ASK_BELOW: &[u8] = &[38, 120, 80];
+
+/// The path of the directory 1, the first that the server 0 gave.
+pub(crate) const PATH_OF_DIR: &[u8] = &[
+    39, 0, 0, 0, 0, 0, 0, 0, 0, 1, 80, 0, 0, 0, 0, 0, 0, 0, 2, 128, 80,
+];
+
+/// The first path that the server 0 gave is back.
+pub(crate) const FIRST_PATH_BACK: &[u8] = &[42, 0, 0, 0, 0, 0, 0, 0, 0, 1];
+
+/// The second one is.
+pub(crate) const SECOND_PATH_BACK: &[u8] = &[42, 0, 0, 0, 0, 0, 0, 0, 0, 2];
+
+/// The first path that the server 1 gave is back.
+pub(crate) const PATH_BELOW_BACK: &[u8] = &[42, 1, 0, 0, 0, 0, 0, 0, 0, 1];
+
+/// Whether the second part of the first transaction that the server 0 leads is ready: the directory 1, which is to go, by its lease.
+pub(crate) const PREPARE_TO_GO: &[u8] = &[
+    33, 0, 0, 0, 0, 0, 0, 0, 0, 1, 1, 0, 1, 80, 0, 0, 0, 0, 0, 0, 0, 1, 0, 80, 1, 0, 0, 0, 0, 0, 0,
+    0, 0, 3, 0, 0, 0, 0, 0, 0, 0, 100, 1, 80,
+];
+
+/// Whether its third part is: the same, by no lease.
+pub(crate) const PREPARE_TO_GO_TOO: &[u8] = &[
+    33, 0, 0, 0, 0, 0, 0, 0, 0, 1, 2, 0, 1, 80, 0, 0, 0, 0, 0, 0, 0, 0, 1, 80,
+];
+
+/// The third part does nothing.
+pub(crate) const DECIDE_NONE_TOO: &[u8] = &[
+    35, 0, 0, 0, 0, 0, 0, 0, 0, 1, 2, 0, 0, 0, 0, 0, 0, 0, 0,
+];
+
+/// The first path that the server 1 gave is in the way of the second part.
+pub(crate) const PATH_IN_THE_WAY: &[u8] = &[
+    34, 0, 0, 0, 0, 0, 0, 0, 0, 1, 1, 3, 1, 0, 0, 0, 0, 0, 0, 0, 1,
+];
+
+/// The second part of the second transaction is ready.
+pub(crate) const YES_OF_SECOND: &[u8] = &[34, 0, 0, 0, 0, 0, 0, 0, 0, 2, 1, 0];
+
+/// What it had to do is done.
+pub(crate) const DONE_OF_SECOND: &[u8] = &[36, 0, 0, 0, 0, 0, 0, 0, 0, 2, 1];
+
+/// The second part of the third transaction is ready.
+pub(crate) const YES_OF_THIRD: &[u8] = &[34, 0, 0, 0, 0, 0, 0, 0, 0, 3, 1, 0];
+
+/// What it had to do is done.
+pub(crate) const DONE_OF_THIRD: &[u8] = &[36, 0, 0, 0, 0, 0, 0, 0, 0, 3, 1];

@@ -1,4 +1,4 @@
-use Rattle.fs_path.proofs.Going.{freezes, thaws}
+use Rattle.fs_path.proofs.LeaseLaws.{freezes, thaws}
 use Rattle.fs_path.proofs.law.a_file_is_frozen_until_all_are_over.Goals as goal
 
 pub returns : goal.returns

@@ -1,4 +1,4 @@
-use Rattle.fs_path.proofs.Going.{go_on, next_new, returned}
+use Rattle.fs_path.proofs.LeaseLaws.{go_on, next_new, returned}
 use Rattle.fs_path.proofs.law.each_number_is_given_once.Goals as goal
 
 pub returns : goal.returns

@@ -1,4 +1,4 @@
-use Rattle.fs_path.proofs.Going.{none_into, none_through}
+use Rattle.fs_path.proofs.LeaseLaws.{none_into, none_through}
 use Rattle.fs_path.proofs.law.what_stands_in_the_way_is_told.Goals as goal
 
 pub returns : goal.returns

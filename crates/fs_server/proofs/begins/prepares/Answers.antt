@@ -9,7 +9,7 @@ use Rattle.fs_server.proofs.begins.prepares.Goals as goal
 
 pub goes_on-requires-clause-can : goal.goes_on-requires-clause-can
 goes_on-requires-clause-can c =
-    begun_can c.args.by c.args.m.now c.args.at.now c.args.txn c.in_ok-gathered.gathered
+    begun_can c.args.mode c.args.by c.args.m.now c.args.at.now c.args.txn c.in_ok-gathered.gathered
     (record { leader = c.in_ok-leader.leader; at = c.in_ok-gathered.gathered.at }) c.requires.txn
     (c.in_ok-gathered.ensures ∙ ap (λ ps. rounds c.args.txn 0 c.args.by ps (first_round c.args.at.now))
     (c.as_slice.ensures ∙ c.in_ok-parts.ensures)) c.in_ok-leader.ensures refl
@@ -17,7 +17,7 @@ goes_on-requires-clause-can c =
 pub returns-clause-step : goal.returns-clause-step
 returns-clause-step c =
     subst (λ (x : Stepped). IfOk c.goes_on.result (λ (d : Decided). stepped_by d c.args.at.now ≡ x))
-    (begun_so c.args.by c.args.m.now c.args.at.now c.args.txn c.in_ok-gathered.gathered
+    (begun_so c.args.mode c.args.by c.args.m.now c.args.at.now c.args.txn c.in_ok-gathered.gathered
     (record { leader = c.in_ok-leader.leader; at = c.in_ok-gathered.gathered.at }) c.requires.txn
     (c.in_ok-gathered.ensures ∙ ap (λ ps. rounds c.args.txn 0 c.args.by ps (first_round c.args.at.now))
     (c.as_slice.ensures ∙ c.in_ok-parts.ensures)) c.in_ok-leader.ensures refl)

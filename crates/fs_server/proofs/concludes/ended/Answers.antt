@@ -8,6 +8,6 @@ use Rattle.fs_server.proofs.concludes.ended.Goals as goal
 
 pub returns : goal.returns
 returns c =
-    ap₂ (λ (o : ServerOut) (t : Then). let d : Decided = record { change = change.Lead c.args.begins c.args.leading.leader.txn c.args.uses t; out = o } in d)
+    ap₂ (λ (o : ServerOut) (t : Then). let d : Decided = record { change = change.Lead c.args.begins c.args.leading.leader.txn c.args.uses c.args.files t; out = o } in d)
     (c.in_ok-out.ensures ∙ ap (λ ys. told_by c.args.decision ys c.args.leading.leader c.args.send) c.as_slice.ensures)
     c.in_ok-rest.ensures

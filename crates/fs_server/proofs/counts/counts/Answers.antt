@@ -12,5 +12,6 @@ goes_on-requires-clause-can c =
 pub returns-clause-step : goal.returns-clause-step
 returns-clause-step c =
     subst (λ (y : Stepped). IfOk c.goes_on.result (λ d. stepped_by d c.args.at.now ≡ y))
-    (counts_so c.args.number c.args.vote.now c.args.l.now c.in_ok-leading.leading _ _ c.args.at.now c.in_ok-leading.ensures c.new-uses.ensures c.new.ensures)
+    (counts_so c.args.number c.args.vote.now c.args.l.now c.in_ok-leading.leading _ _ _ c.args.at.now
+    c.in_ok-leading.ensures c.new-uses.ensures c.new-files.ensures c.new.ensures)
     c.goes_on.ensures.step

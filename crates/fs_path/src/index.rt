@@ -1,0 +1,244 @@
+//! Leases by file: at each file their numbers in order, each with the server at its other end. A look-up, a name more and a name
+//! less cost a search by halves among the files, and one among the names at that file.
+ghost use Rattle.std.specs.Prelude.{◌≡◌, true, false, ℕ, List as Seq, IfOk, OnOk, [], ◌≤◌, length, unwrap_or};
+ghost use Rattle.std.specs.FinMap.{get, insert};
+ghost use Rattle.std.specs.List.{position};
+ghost use Rattle.std.specs.Option.{option_copied};
+ghost use Rattle.fs_ident.specs.Maps.{map_of};
+ghost use Rattle.fs_path.specs.Leases.{path_before};
+ghost use Rattle.fs_path.specs.Walk.{is_among};
+ghost use Rattle.fs_path.specs.Index.{AddsUnmet, AreRisingAt, ChangesAmong, ChangesAt, IsNoted, IsOver, are_rising, is_numbered, named_at, no_of_named, with_named, without_named};
+
+use crate::files::goes_over;
+use fs_ident::{FileId, List, Memory, PathNo, Twin, copy_map};
+use std::alloc::Global;
+use std::collections::BTreeMap;
+
+/// The leases at each file, in order of number, each with the server at its other end. Its keys are files; one without a lease is
+/// none of them.
+#[derive(Debug, Drop)]
+pub(crate) struct FileIndex {
+    files: BTreeMap<FileId, List<(u8, PathNo)>>,
+    /// Whether it has them all, and no two have one number. It has not any more once memory was wanting.
+    whole: bool,
+}
+
+impl FileIndex {
+    /// That of no lease, which takes no memory.
+    pub(crate) fn new(alloc: Global) -> FileIndex
+        ensures { IsOver result [] }
+    {
+        FileIndex {
+            files: BTreeMap::new(alloc),
+            whole: true,
+        }
+    }
+
+    /// An equal one.
+    pub(crate) fn copy(&self, alloc: Global) -> Result<FileIndex, Memory>
+        ensures whole { IfOk result (λ twin. twin.whole ≡ self.now.whole) }
+        ensures files { IfOk result (λ twin. map_of twin.files ≡ map_of self.now.files) }
+    {
+        Ok(FileIndex {
+            files: copy_map(alloc, &self.files)?,
+            whole: self.whole,
+        })
+    }
+
+    /// Whether it has all leases, and no two have one number.
+    pub(crate) fn is_whole(&self) -> bool
+        ensures { result ≡ self.now.whole }
+    {
+        self.whole
+    }
+
+    /// The leases at the file.
+    pub(crate) fn at(&self, file: &FileId) -> &[(u8, PathNo)]
+        ensures { result.now ≡ named_at self.now.files file.now }
+    {
+        match found(&self.files, file) {
+            Some(names) => names.as_slice(),
+            None => &[],
+        }
+    }
+
+    /// One lease more at each of the files. It is not whole any more where the number is no new one or memory is wanting.
+    pub(crate) fn note(&mut self, alloc: Global, files: &[FileId], name: (u8, PathNo), is_new: bool)
+        requires { self.old.whole ≡ true → AreRisingAt self.old.files }
+        ensures { IsNoted is_new name files.now self.old self.new }
+    {
+        if self.whole && is_new {
+            match add_all(alloc, &mut self.files, files, name) {
+                Ok(()) => {}
+                Err(_) => self.whole = false,
+            }
+        } else {
+            self.whole = false;
+        }
+    }
+
+    /// The lease of the number stands at none of the files any more.
+    pub(crate) fn forget(&mut self, files: &[FileId], no: PathNo)
+        requires { AreRisingAt self.old.files }
+        ensures whole { self.new.whole ≡ self.old.whole }
+        ensures files { ChangesAmong (without_named no) files.now self.old.files self.new.files }
+    {
+        for file in files {
+            forget_at(&mut self.files, file, no);
+        }
+    }
+}
+
+/// One lease more at each of the files.
+fn add_all(
+    alloc: Global,
+    by_file: &mut BTreeMap<FileId, List<(u8, PathNo)>>,
+    files: &[FileId],
+    name: (u8, PathNo),
+) -> Result<(), Memory>
+    requires { AreRisingAt by_file.old }
+    ensures { OnOk result (ChangesAmong (with_named name) files.now by_file.old by_file.new) }
+{
+    for at in 0..files.len() {
+        add_unmet(alloc, by_file, &files[..at], &files[at], name)?;
+    }
+    Ok(())
+}
+
+/// One lease more at the file, unless it was met before.
+fn add_unmet(
+    alloc: Global,
+    by_file: &mut BTreeMap<FileId, List<(u8, PathNo)>>,
+    met: &[FileId],
+    file: &FileId,
+    name: (u8, PathNo),
+) -> Result<(), Memory>
+    requires { is_among file.now met.now ≡ false →
+        are_rising no_of_named (named_at by_file.old file.now) ≡ true }
+    ensures { OnOk result (AddsUnmet name (is_among file.now met.now) file.now by_file.old by_file.new) }
+{
+    if goes_over(met, file) {
+        Ok(())
+    } else {
+        add_at(alloc, by_file, file, name)
+    }
+}
+
+/// One lease more at the file.
+fn add_at(
+    alloc: Global,
+    by_file: &mut BTreeMap<FileId, List<(u8, PathNo)>>,
+    file: &FileId,
+    name: (u8, PathNo),
+) -> Result<(), Memory>
+    requires { are_rising no_of_named (named_at by_file.old file.now) ≡ true }
+    ensures { OnOk result (ChangesAt (with_named name) file.now by_file.old by_file.new) }
+{
+    match by_file.get_mut(file) {
+        Some(names) => put_name(names.items_mut(), name),
+        None => {
+            let first = first_name(alloc, name)?;
+            put_file(by_file, file.copy(alloc)?, first)
+        }
+    }
+}
+
+/// The lease of the number does not stand at the file any more.
+fn forget_at(by_file: &mut BTreeMap<FileId, List<(u8, PathNo)>>, file: &FileId, no: PathNo)
+    requires { are_rising no_of_named (named_at by_file.old file.now) ≡ true }
+    ensures { ChangesAt (without_named no) file.now by_file.old by_file.new }
+{
+    if thin(by_file, file, no) {
+        by_file.remove(file);
+    }
+}
+
+#[tactic(auto, using(fs_ident::proofs::MapsOf::maps))]
+fn found<'a>(
+    by_file: &'a BTreeMap<FileId, List<(u8, PathNo)>>,
+    file: &FileId,
+) -> Option<&'a List<(u8, PathNo)>>
+    ensures { option_copied result ≡ get (map_of by_file.now) file.now }
+{
+    by_file.get(file)
+}
+
+fn first_name(alloc: Global, name: (u8, PathNo)) -> Result<List<(u8, PathNo)>, Memory>
+    ensures { IfOk result (λ names. names ≡ with_named name []) }
+{
+    let mut names = List::new(alloc);
+    names.push(name)?;
+    Ok(names)
+}
+
+#[tactic(auto, using(fs_ident::proofs::MapsOf::maps))]
+fn put_file(
+    by_file: &mut BTreeMap<FileId, List<(u8, PathNo)>>,
+    file: FileId,
+    names: List<(u8, PathNo)>,
+) -> Result<(), Memory>
+    ensures { OnOk result (map_of by_file.new ≡ insert (map_of by_file.old) file names) }
+{
+    by_file.insert(file, names)?;
+    Ok(())
+}
+
+/// Takes the lease of the number off the file, and tells whether none is left there.
+fn thin(by_file: &mut BTreeMap<FileId, List<(u8, PathNo)>>, file: &FileId, no: PathNo) -> bool
+    requires { are_rising no_of_named (named_at by_file.old file.now) ≡ true }
+    ensures changed { ChangesAt (without_named no) file.now by_file.old by_file.new }
+    ensures empty { result ≡ true → named_at by_file.new file.now ≡ [] }
+{
+    match by_file.get_mut(file) {
+        Some(names) => {
+            take_name(names.items_mut(), no);
+            names.is_empty()
+        }
+        None => false,
+    }
+}
+
+/// Puts the name before the first with a greater number.
+fn put_name(names: &mut Vec<(u8, PathNo)>, name: (u8, PathNo)) -> Result<(), Memory>
+    requires { are_rising no_of_named names.old.items ≡ true }
+    ensures { OnOk result (names.new.items ≡ with_named name names.old.items) }
+{
+    let at = place_behind(names, name.1);
+    names.insert(at, name)?;
+    Ok(())
+}
+
+/// Where the first with a greater number stands, or the length.
+fn place_behind(names: &[(u8, PathNo)], no: PathNo) -> usize
+    requires { are_rising no_of_named names.now ≡ true }
+    ensures place { result ≡ unwrap_or (position (λ n. path_before no n.1) names.now)
+        (length names.now) }
+    ensures within { result ≤ length names.now }
+{
+    names.partition_point(|name| !(no < name.1))
+}
+
+/// Takes out the name of the number.
+fn take_name(names: &mut Vec<(u8, PathNo)>, no: PathNo)
+    requires { are_rising no_of_named names.old.items ≡ true }
+    ensures { names.new.items ≡ without_named no names.old.items }
+{
+    match place_of_name(names, no) {
+        Some(at) => {
+            names.remove(at);
+        }
+        None => {}
+    }
+}
+
+/// Where the name of the number stands.
+fn place_of_name(names: &[(u8, PathNo)], no: PathNo) -> Option<usize>
+    requires { are_rising no_of_named names.now ≡ true }
+    ensures { result ≡ position (is_numbered no_of_named no) names.now }
+{
+    let at = names.partition_point(|name| name.1 < no);
+    match names.get(at) {
+        Some(name) => { if name.1 == no { Some(at) } else { None } }
+        None => None,
+    }
+}

@@ -1,0 +1,170 @@
+-- A leader decides a transaction of which all parts have voted: all that is told of path leases goes on to hold.
+use Rattle.std.proofs.Common.{◌≡◌, ℕ, Bool, true, false, List, [], ◌∷◌, cond, refl, sym, ap, subst, inl, inr}
+use Rattle.std.specs.Prelude.{Option, Some, None, slice_get}
+use Rattle.fs_ident.specs.In.{In}
+use Rattle.fs_ident.specs.declared.actor.Peer.{Peer}
+use Rattle.fs_ident.specs.declared.actor.Session.{Session}
+use Rattle.fs_ident.specs.declared.actor.TxnNo.{TxnNo}
+use Rattle.fs_ident.specs.declared.kind.Kind.TheVariants.{Dir}
+use Rattle.fs_ident.proofs.Passing.{found}
+use Rattle.fs_field.specs.Table.{same_txn}
+use Rattle.fs_msg.specs.declared.answer.Answer.TheVariants as answer
+use Rattle.fs_msg.specs.declared.msg.Msg.{Msg}
+use Rattle.fs_msg.specs.declared.msg.Msg.TheVariants as msg
+use Rattle.fs_msg.specs.declared.peer_msg.PeerMsg.{PeerMsg}
+use Rattle.fs_msg.specs.declared.peer_msg.PeerMsg.TheVariants as peer
+use Rattle.fs_msg.specs.declared.server_note.ServerNote.{ServerNote}
+use Rattle.fs_record.specs.Applied.{records_after_all}
+use Rattle.fs_record.specs.declared.led_end.LedEnd.{LedEnd}
+use Rattle.fs_server.specs.Concludes.{concludes, ends_now, ends_with, goes_on, tells, waits}
+use Rattle.fs_server.specs.LeadingLaws.{CommitSplits}
+use Rattle.fs_server.specs.Server.{Stepped}
+use Rattle.fs_server.specs.declared.event.ServerEvent.{ServerEvent}
+use Rattle.fs_server.specs.declared.event.ServerEvent.TheVariants.{Turn}
+use Rattle.fs_server.specs.declared.state.Server.{Server}
+use Rattle.fs_txn.specs.Deciding.{by_path, commit, decision, first_end, needs_path, reply_of, told_effects, unless_ended}
+use Rattle.fs_txn.specs.Leading.{elsewhere, end_of_decision, leading_of, own_parts}
+use Rattle.fs_txn.specs.Votes.{is_full}
+use Rattle.fs_txn.specs.declared.decision.Decision.{Decision}
+use Rattle.fs_txn.specs.declared.decision.Decision.TheVariants.{Abort}
+use Rattle.fs_txn.specs.declared.leading.Leading.{Leading}
+use Rattle.fs_serial.specs.Cluster.{Cluster, after_step}
+use Rattle.fs_serial.specs.Conclusions.{TellsItems, after_concluded}
+use Rattle.fs_serial.specs.KeptFiles.{FilesKept}
+use Rattle.fs_serial.specs.Leading.{LedHolds}
+use Rattle.fs_serial.specs.Paths.{LeavesPaths, PathsHold}
+use Rattle.fs_serial.specs.Seen.{ClusterHolds}
+use Rattle.fs_serial.proofs.Lists.SetAt.{get_here}
+use Rattle.fs_serial.proofs.Paths.ClientsKeep.{paths_later}
+use Rattle.fs_serial.proofs.Paths.Committed.{places_stay, records_stay}
+use Rattle.fs_serial.proofs.Paths.KeptOff.{freed_less}
+use Rattle.fs_serial.proofs.Paths.OffPaths.{made_kept}
+use Rattle.fs_serial.proofs.Paths.Together.{others_keep}
+use Rattle.fs_serial.proofs.Paths.Untold.{AreQuietWords, AreSilent, IsQuietWord, SaysNoPath}
+use Rattle.fs_serial.proofs.Paths.Untold.{answers_quiet, none_quiet, quiet_both, quiet_silent, silent_both, silent_sent, word_step_leaves}
+use Rattle.fs_serial.proofs.Transactions.Aborted.{none_told}
+use Rattle.fs_serial.proofs.Transactions.Tables.{leading_set}
+use Rattle.fs_serial.proofs.WholeRuns.LedEvents.{same_cluster}
+use Rattle.fs_serial.proofs.WholeRuns.LedKept.{all_keep_led}
+
+-- ## What is told
+
+now_quiet : (out : List (ℕ × ℕ)) (by : Session) (e : LedEnd) → AreQuietWords (ends_now out by e)
+now_quiet [] by e = answers_quiet by (answer.Led e)
+now_quiet (x ∷ xs) by e = none_quiet
+
+tells_silent : (txn : TxnNo) (d : Decision) (out : List (ℕ × ℕ)) → AreSilent (tells txn d out)
+tells_silent txn d [] to m i = absurd i
+tells_silent txn d (x ∷ xs) to m (inl e) =
+    let told : PeerMsg = peer.Decide (record { txn = txn; number = x.0; effects = told_effects d x.0 }) in
+    let word : msg.Peer m ≡ msg.Peer told = ap (λ (y : Peer × Msg). y.1) e in
+    let same : m ≡ told = cc word in
+    subst SaysNoPath (sym same) tt
+tells_silent txn d (x ∷ xs) to m (inr i) = tells_silent txn d xs to m i
+
+module _ (skew greatest k : ℕ) (c : Cluster) (s : Server) (l : Leading) (at : slice_get c.servers k ≡ Some s)
+    (h : ClusterHolds skew greatest c) (kept : FilesKept c) (p : PathsHold c) where
+  abbrev x : Stepped
+  x = concludes l [] s
+
+  abbrev out : List (ℕ × ℕ)
+  out = elsewhere s.me l
+
+  -- ## It is not carried out
+
+  abort_leaves : (e : LedEnd)
+      → LeavesPaths k Turn s (ends_with (Abort e) out l [] s) c (after_step k Turn (ends_with (Abort e) out l [] s) c)
+  abort_leaves e =
+      let y : Stepped = ends_with (Abort e) out l [] s in
+      word_step_leaves c k Turn s y at (record {
+        server = record {
+          me = refl;
+          records = ap (records_after_all s.records) (none_told e (own_parts s.me l));
+          issued = refl;
+          held = refl;
+          given = refl;
+          kept = λ f is. inl (freed_less s l.leader.txn f is);
+        };
+        admitted = refl;
+        sent = quiet_both (tells l.leader.txn (Abort e) out) (ends_now out l.leader.session e) (tells_none out)
+            (now_quiet out l.leader.session e);
+        takes = record { parcels = refl; effects = refl };
+        taken = λ number. refl;
+      })
+    where
+      -- no part is told to do anything
+      tells_none : (out : List (ℕ × ℕ)) → AreQuietWords (tells l.leader.txn (Abort e) out)
+      tells_none [] to m i = absurd i
+      tells_none (n ∷ ns) to m (inl q) =
+          let told : PeerMsg = peer.Decide (record { txn = l.leader.txn; number = n.0; effects = [] }) in
+          let word : msg.Peer m ≡ msg.Peer told = ap (λ (y : Peer × Msg). y.1) q in
+          let same : m ≡ told = cc word in
+          subst IsQuietWord (sym same) (record { path = tt; parcel = refl; effects = refl })
+      tells_none (n ∷ ns) to m (inr i) = tells_none ns to m i
+
+  -- ## It is
+
+  module _ (leading : leading_of l.leader.txn s.leading ≡ Some l) (full : is_full l.leader.votes ≡ true) (splits : CommitSplits) where
+    abbrev pub there : In l s.leading
+    there = (found (λ (z : Leading). same_txn z.leader.txn l.leader.txn) s.leading l leading).0
+
+    led : LedHolds (after_concluded k l s c)
+    led = (all_keep_led skew greatest k c s at h).concluded l leading full
+
+    module _ (yes : first_end l.leader.votes ≡ None) where
+      commit_leaves : LeavesPaths k Turn s x c (after_step k Turn x c)
+      commit_leaves = record {
+        me = refl;
+        issued = refl;
+        held = refl;
+        kept = λ f is. inl (freed_less s l.leader.txn f is);
+        given = refl;
+        sent =
+            let y : Decision = decision l.leader None in
+            let now : List (Peer × Msg) = ends_now out l.leader.session (end_of_decision y) in
+            silent_sent (after_step k Turn x c) k x.out.send
+            (silent_both (tells l.leader.txn y out) now (tells_silent l.leader.txn y out)
+            (quiet_silent now (now_quiet out l.leader.session (end_of_decision y))));
+        taken = λ number. refl;
+        journal = λ f e. made_kept c.journal x.out.admitted f Dir e;
+        up = places_stay k skew greatest c s at h kept p l there yes splits led;
+        here = records_stay k skew greatest c s at h kept p l there yes;
+      }
+
+    -- ## Whatever the decision
+
+    leaves : (o : Option LedEnd) → first_end l.leader.votes ≡ o → LeavesPaths k Turn s x c (after_step k Turn x c)
+    leaves None none = commit_leaves none
+    leaves (Some e) ends =
+        let is : decision l.leader None ≡ Abort e =
+        ap (λ o. unless_ended o (cond (needs_path l.leader.mode l.leader.op) (by_path l.leader None)
+        (commit l.leader (reply_of l.leader.op)))) ends in
+        subst (λ (y : Decision). LeavesPaths k Turn s (ends_with y out l [] s) c (after_step k Turn (ends_with y out l [] s) c)) (sym is)
+        (abort_leaves e)
+
+    pub decision_keeps_paths : PathsHold (after_concluded k l s c)
+    decision_keeps_paths =
+        let then : Cluster = after_concluded k l s c in
+        paths_later (after_step k Turn x c) then.journal then.replied then.lines (λ f e. e)
+        (others_keep c k Turn s x p at (leaves (first_end l.leader.votes) refl))
+
+-- ## It waits, and is decided then
+
+module _ (skew greatest k : ℕ) (c : Cluster) (s : Server) (at : slice_get c.servers k ≡ Some s) (e : ServerEvent) (tells : TellsItems e)
+    (splits : CommitSplits) (n : ServerNote) (l : Leading) (sent : List (Peer × Msg)) (t : Server) where
+  abbrev first : Stepped
+  first = waits n l sent t
+
+  abbrev behind : Cluster
+  behind = after_step k e first c
+
+  pub goes_on_keeps_paths : (h : ClusterHolds skew greatest behind) → FilesKept behind → PathsHold behind
+      → PathsHold (after_step k e (goes_on n l sent t) c)
+  goes_on_keeps_paths h kept p = by (is_full l.leader.votes) refl
+    where
+      by : (b : Bool) → is_full l.leader.votes ≡ b → PathsHold (after_step k e (cond b (concludes l sent t) first) c)
+      by true full =
+          subst PathsHold (same_cluster skew greatest k c s at e tells splits n l sent t)
+          (decision_keeps_paths skew greatest k behind first.server l (get_here c.servers k s first.server at) h kept p
+          (leading_set l t.leading) full splits)
+      by false full = p
