@@ -26,7 +26,7 @@ pub fn run(alloc: Global, files: u32, rounds: u32, makes: bool) -> Result<(), Co
     done
 }
 
-/// The same, at this server.
+/// Makes so many files at this server, and then asks so many questions or makes so many files more.
 fn run_at(
     alloc: Global,
     server: &mut ServerCore,

@@ -38,7 +38,8 @@ IsDone (Node n) words bytes before now = NodeComesTo n (node_places words) bytes
 -- a write failed, so that a part from the front on was written
 abbrev pub IsCut : Command → List (List ℕ) → List ℕ → Outside → Outside → Type 0
 IsCut (Run format) words bytes before now = IsPartOfRun format bytes before.written now.written
-IsCut (Generate n) words bytes before now = (stop_of (made n) ≡ None) × IsPrefixWritten before.written now.written (generated_text n (run_of (made n)))
+IsCut (Generate n) words bytes before now = (stop_of (made n) ≡ None)
+    × IsPrefixWritten before.written now.written (generated_text n (run_of (made n)))
 IsCut (Node n) words bytes before now = NodeComesTo n (node_places words) bytes (Err stop.Write) before now
 
 -- a step needs a number after the counter's last one: of a run nothing is written then, of a node the lines of the turns before

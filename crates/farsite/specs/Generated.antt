@@ -27,4 +27,6 @@ refused_in outcomes = flat_map (λ (o : Outcome). flat_map refused_by o.notes) o
 
 -- the line of the run of what was made from this number
 abbrev pub generated_text : ℕ → Run → List ℕ
-generated_text n r = generated_line n (length r.outcomes) (length (journal_of r.world)) (length (refused_in r.outcomes)) (len (space_of r.world))
+generated_text n r =
+    generated_line n (length r.outcomes) (length (journal_of r.world))
+    (length (refused_in r.outcomes)) (len (space_of r.world))

@@ -40,7 +40,8 @@ pub record IsRunOf (schedule : Schedule) (text : List ℕ) (before now : Option 
   pub fair : AllFair (first_world schedule.head) schedule.events
   pub over : AllCaused [] (said_from (first_world schedule.head) schedule.events)
   pub known : NoneStrange (run_of schedule).outcomes
-  pub admitted : schedule.head ≡ Direct → AllAdmitted (journal_of (run_of schedule).world) (replies_given schedule.events (run_of schedule).outcomes)
+  pub admitted : schedule.head ≡ Direct
+      → AllAdmitted (journal_of (run_of schedule).world) (replies_given schedule.events (run_of schedule).outcomes)
 
 -- what was written is, in the format, the run of the schedule that was read
 pub record IsRun (format : Format) (bytes : List ℕ) (before now : Option (List ℕ)) : Type 0 where
@@ -50,7 +51,9 @@ pub record IsRun (format : Format) (bytes : List ℕ) (before now : Option (List
 
 -- the bytes are a schedule, whose run went to its end, and a part of it in the format from the front on was written
 abbrev pub IsPartOfRun : Format → List ℕ → Option (List ℕ) → Option (List ℕ) → Type 0
-IsPartOfRun format bytes before now = (s : Schedule) × IsScheduleText s bytes × (stop_of s ≡ None) × IsPrefixWritten before now (text_of format (run_of s))
+IsPartOfRun format bytes before now =
+    (s : Schedule) × IsScheduleText s bytes
+    × (stop_of s ≡ None) × IsPrefixWritten before now (text_of format (run_of s))
 
 -- the bytes are a schedule, whose run is broken off there
 abbrev pub IsStopped : Stop → List ℕ → Type 0

@@ -36,7 +36,8 @@ abbrev pub status_text : Status → List ℕ
 status_text status.Done = codes "done"
 status_text (status.Usage word) = codes "word " ++ decimal word ++ codes " is not understood"
 status_text (status.BadLine line) = codes "line " ++ decimal line ++ codes " is not in the grammar"
-status_text (status.Skewed line earlier) = codes "line " ++ (decimal line ++ (codes " is more than the skew before line " ++ decimal earlier))
+status_text (status.Skewed line earlier) =
+    codes "line " ++ (decimal line ++ (codes " is more than the skew before line " ++ decimal earlier))
 status_text (status.Limit which at) = codes "line " ++ (decimal at ++ (codes " passes the limit of " ++ which_text which))
 status_text (status.TooLong limit) = codes "the input has more than " ++ decimal limit ++ codes " bytes"
 status_text status.ReadFault = codes "the input could not be read"

@@ -118,7 +118,7 @@ fn add_refused(notes: &List<Note>, numbers: &mut Vec<u64>) -> Result<(), Memory>
     Ok(())
 }
 
-/// The same of one note.
+/// Adds the numbers of the entries that were refused with this note.
 fn add_refused_by(note: &Note, numbers: &mut Vec<u64>) -> Result<(), Memory>
     ensures { OnOk result (numbers.new.items ≡ numbers.old.items ++ refused_by note.now) }
 {

@@ -2,6 +2,7 @@ mod generated;
 mod led;
 mod moves;
 mod nodes;
+mod paths;
 mod poor;
 mod schedules;
 mod served;
@@ -19,6 +20,7 @@ use moves::{
     DELEGATION, DELEGATION_REPORT, OVERTAKEN, OVERTAKEN_REPORT, REFUSED_MOVES,
     REFUSED_MOVES_REPORT, SENT_ON, SENT_ON_REPORT,
 };
+use paths::{MOVES_WAIT_FOR_PATHS, ONE_WINS, PATHS_BEGIN};
 use schedules::{
     FIRST, FIRST_JOURNAL, FIRST_REPORT, HEAD, OPENS, OPENS_REPORT, OTHERS, OTHERS_OUTCOMES,
     RENAMES, RENAMES_REPORT, SAVE, SAVE_REPORT,
@@ -212,6 +214,13 @@ fn reports_of_led_operations_to_the_byte(rt: HostRuntime) -> Result<(), Fail> {
 fn reports_of_a_rename_over_three_servers_to_the_byte(rt: HostRuntime) -> Result<(), Fail> {
     goes_on(&rt, rt.alloc(), OVER_THREE_BEGINS, OVER_THREE_ENDS)?;
     goes_on(&rt, rt.alloc(), OVER_THREE_BEGINS, OVER_THREE_ABORTS)
+}
+
+/// Two renames of directories that together would make a cycle, and moves of what paths go over.
+#[test]
+fn reports_of_renames_of_directories_to_the_byte(rt: HostRuntime) -> Result<(), Fail> {
+    goes_on(&rt, rt.alloc(), PATHS_BEGIN, ONE_WINS)?;
+    goes_on(&rt, rt.alloc(), PATHS_BEGIN, MOVES_WAIT_FOR_PATHS)
 }
 
 /// How a replay ends that writes nothing.

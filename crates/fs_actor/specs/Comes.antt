@@ -16,4 +16,5 @@ client_took now (Client s) heard h x = client_goes false heard (unheard_note h) 
 -- a packet of the actor comes to it
 abbrev pub client_comes : ℕ → Peer → Packet → ClientSide → ClientStep
 client_comes now from p x =
-    client_took now from (heard_in from p) (post_accepted x.post from p).heard (record { client = x.client; post = (post_accepted x.post from p).links })
+    client_took now from (heard_in from p) (post_accepted x.post from p).heard
+    (record { client = x.client; post = (post_accepted x.post from p).links })

@@ -159,7 +159,7 @@ fn sends(
     }
 }
 
-/// The same. Where that fails only its links have changed, as `undo` keeps.
+/// Carries out the plan, and tells what is due on the links. Where that fails only these have changed, as `undo` keeps.
 fn carry_out(
     alloc: Global,
     turn: bool,

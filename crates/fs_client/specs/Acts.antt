@@ -145,7 +145,8 @@ answers_plain o r c = if not (is_change r) && is_empty c.log then reads o r c el
 
 -- the operation, with its reply and the leases that decided it, and the file that moves or goes
 abbrev pub led_with : Op → Reply → List ℕ × Kind → Client → Led
-led_with o r moved c = record { entry = record { n = c.next; op = o; reply = r; uses = uses_in c.view c.last o }; file = moved.0; kind = moved.1 }
+led_with o r moved c =
+    record { entry = record { n = c.next; op = o; reply = r; uses = uses_in c.view c.last o }; file = moved.0; kind = moved.1 }
 
 -- the server is to lead it
 abbrev pub leads : ℕ → Led → Client → Plan Act

@@ -111,7 +111,8 @@ with_lead to led c = record c { view = with_pins led.entry.uses c.view; exchange
 
 -- what was led is admitted: its effects join the values, and its number is used up
 abbrev pub with_led_done : List Effect → Client → Client
-with_led_done effects c = record c { view = without_led_pins c.led (with_admitted effects c.view); exchange = None; led = None; next = c.next + 1 }
+with_led_done effects c =
+    record c { view = without_led_pins c.led (with_admitted effects c.view); exchange = None; led = None; next = c.next + 1 }
 
 -- what was led is not admitted, and its number is free
 abbrev pub with_led_freed : Client → Client

@@ -112,7 +112,7 @@ impl ClientCore {
         answers::plan(alloc, &self.client, now, from, a)
     }
 
-    /// Changes what a plan of this very client says. `Memory` where memory is wanting; nothing changed then.
+    /// Changes what a plan of this very client says. `Memory` when out of memory; nothing changed then.
     pub fn commit(&mut self, alloc: Global, ready: Ready) -> Result<(), Memory>
         requires { can_commit ready self.old ≡ true }
         ensures ok { OnOk result (self.new ≡ committed ready self.old) }

@@ -16,7 +16,7 @@ use fs_ident::{LeaseNo, List, Memory};
 use fs_map::FileMap;
 use std::alloc::Global;
 
-/// What is ready is done to this very client, for which it was planned. `Memory` where memory is wanting; nothing
+/// What is ready is done to this very client, for which it was planned. `Memory` when out of memory; nothing
 /// changed then.
 pub(crate) fn commit(alloc: Global, client: &mut Client, ready: Ready) -> Result<(), Memory>
     requires { can_commit ready client.old ≡ true }

@@ -180,7 +180,7 @@ fn still_wait(alloc: Global, bytes: &[u8], joined: &mut List<Joined>) -> Result<
     Ok(false)
 }
 
-/// The same, with the bytes that are still waiting where they are not all.
+/// Appends the segments. Tells what they complete, and the bytes that are still waiting where they are not all.
 fn join_and_cut(
     alloc: Global,
     held: &mut Vec<u8>,

@@ -19,7 +19,7 @@ pub fn joined_is_cut()
     ensures at_the_last { (messages : Seq (Seq ℕ)) →
         AllByRecursion (λ m. length m < 2 ^ 64) messages →
         answers [] (flat_map cut_of messages) ≡ flat_map answers_for messages }
-    // The same of the segments that have come so far.
+    // The segments that have come so far give the first of the messages.
     ensures so_far { (messages segments rest : Seq (Seq ℕ)) →
         AllByRecursion (λ m. length m < 2 ^ 64) messages →
         segments ++ rest ≡ flat_map cut_of messages →

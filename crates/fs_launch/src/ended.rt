@@ -40,7 +40,7 @@ pub(crate) fn client_ended<C: Clock, L: Link, K: Sink>(
     }
 }
 
-/// The same of a server's node.
+/// The turns of a server's node, so many at most, and then its last lines.
 pub(crate) fn server_ended<C: Clock, L: Link, K: Sink>(
     alloc: Global,
     turns: u64,

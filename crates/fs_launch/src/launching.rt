@@ -74,7 +74,7 @@ pub fn launch<S: Source, K: Sink, C: Clock, L: Link>(
     }
 }
 
-/// The same, where the address is bound.
+/// Reads the script of a node whose address is bound, makes its turns, and writes its last lines.
 fn bound<S: Source, K: Sink, C: Clock, L: Link>(
     alloc: Global,
     settings: Settings,
@@ -120,7 +120,7 @@ fn bound<S: Source, K: Sink, C: Clock, L: Link>(
     }
 }
 
-/// The same, where the input was read.
+/// Parses these bytes of the input as the script, makes the node's turns, and writes its last lines.
 fn scripted<K: Sink, C: Clock, L: Link>(
     alloc: Global,
     settings: Settings,

@@ -45,7 +45,7 @@ pub(crate) fn started<C: Clock, L: Link, K: Sink>(
     }
 }
 
-/// The same where it is this session's client.
+/// Runs the client of this session, and writes its last lines.
 fn client_started<C: Clock, L: Link, K: Sink>(
     alloc: Global,
     settings: Settings,
@@ -77,7 +77,7 @@ fn client_started<C: Clock, L: Link, K: Sink>(
     }
 }
 
-/// The same where it is this server.
+/// Runs this server, and writes its last lines.
 fn server_started<C: Clock, L: Link, K: Sink>(
     alloc: Global,
     settings: Settings,

@@ -147,7 +147,7 @@ pub(crate) fn new_part(
 }
 
 /// The list of the map after what the piece gives has come to a server. Only what begins with the piece's prefix is
-/// looked at and replaced. `Memory` where memory is wanting; the list is as it was then.
+/// looked at and replaced. `Memory` when out of memory; the list is as it was then.
 pub(crate) fn change(
     alloc: Global,
     owners: &mut List<(FileId, u8)>,
@@ -168,7 +168,7 @@ pub(crate) fn change(
     Ok(())
 }
 
-/// The list of the map after all below a prefix is said to be at a server. `Memory` where memory is wanting; the list is
+/// The list of the map after all below a prefix is said to be at a server. `Memory` when out of memory; the list is
 /// as it was then.
 pub(crate) fn hint_all(
     alloc: Global,

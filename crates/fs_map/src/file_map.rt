@@ -99,8 +99,8 @@ impl FileMap {
         Ok(map)
     }
 
-    /// All below the prefix that is `me`'s goes to another server: which identifiers these are. `Memory` where memory
-    /// is wanting; the map is as it was then.
+    /// All below the prefix that is `me`'s goes to another server: which identifiers these are. `Memory` when out of
+    /// memory; the map is as it was then.
     pub fn give(
         &mut self,
         alloc: Global,
@@ -124,7 +124,7 @@ impl FileMap {
         Ok(piece)
     }
 
-    /// What the piece gives comes to `me`; all else stays as it was known. `Memory` where memory is wanting; the map
+    /// What the piece gives comes to `me`; all else stays as it was known. `Memory` when out of memory; the map
     /// is as it was then.
     pub fn take(&mut self, alloc: Global, me: u8, piece: &MapPiece) -> Result<(), Memory>
         requires { IsPiece piece.now.prefix piece.now.given }
@@ -139,7 +139,7 @@ impl FileMap {
     }
 
     /// Begins what `take` does: the map is taken out, and the first map stands in its place. What is handed out takes no
-    /// more memory to become the map after the change, or to become the map as it was. `Memory` where memory is wanting;
+    /// more memory to become the map after the change, or to become the map as it was. `Memory` when out of memory;
     /// the map is as it was then.
     pub fn begin_take(&mut self, alloc: Global, me: u8, piece: &MapPiece) -> Result<Taking, Memory>
         requires { IsPiece piece.now.prefix piece.now.given }
@@ -154,7 +154,7 @@ impl FileMap {
         Ok(Taking::new(mem::replace(&mut self.owners, first.owners), bounds))
     }
 
-    /// All below the prefix is said to be at that server. `Memory` where memory is wanting; the map is as it was
+    /// All below the prefix is said to be at that server. `Memory` when out of memory; the map is as it was
     /// then.
     pub fn hint(&mut self, alloc: Global, prefix: &FileId, to: u8) -> Result<(), Memory>
         ensures map { OnOk result (self.new ≡ map_after_hint self.old prefix.now to) }

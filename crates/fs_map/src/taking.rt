@@ -83,7 +83,7 @@ impl Taking {
 }
 
 /// Puts what is to stand in the place of what begins with the piece's prefix, after what the piece gives has come to a
-/// server, behind the list. Only what begins with the prefix is looked at. `Memory` where memory is wanting; the list is
+/// server, behind the list. Only what begins with the prefix is looked at. `Memory` when out of memory; the list is
 /// as it was then.
 pub(crate) fn begin(
     alloc: Global,

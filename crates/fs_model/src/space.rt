@@ -100,7 +100,7 @@ impl Space {
         node(&self.nodes, id)
     }
 
-    /// Does the operation for the session. Where memory is wanting nothing changes.
+    /// Does the operation for the session. When out of memory nothing changes.
     pub fn step(&mut self, alloc: Global, by: Session, op: &Op) -> Result<Reply, Memory>
         ensures reply { IfOk result (λ reply. reply ≡ (step self.old by op.now).reply) }
         ensures nodes { IfOk result (λ _. self.new ≡ (step self.old by op.now).nodes) }

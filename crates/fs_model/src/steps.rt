@@ -19,7 +19,7 @@ use fs_ident::{FileId, Memory, Session};
 use std::alloc::Global;
 use std::collections::BTreeMap;
 
-/// Does the operation, or nothing where memory is wanting.
+/// Does the operation, or nothing when out of memory.
 pub fn step(
     alloc: Global,
     nodes: &mut BTreeMap<FileId, Node>,

@@ -116,7 +116,7 @@ fn place_of(places: &BTreeMap<FileId, usize>, id: &FileId) -> Option<usize>
     places.get(id).copied()
 }
 
-/// Adds a file behind the others, or nothing where memory is wanting.
+/// Adds a file behind the others, or nothing when out of memory.
 #[tactic(auto, using(fs_ident::proofs::MapsOf::maps))]
 fn add(
     alloc: Global,

@@ -60,7 +60,7 @@ impl FileIndex {
         }
     }
 
-    /// Adds the number on the file. It is not whole any more where memory is wanting.
+    /// Adds the number on the file. It is not whole any more when out of memory.
     pub(crate) fn add(&mut self, alloc: Global, file: &FileId, no: LeaseNo)
         ensures { IsNoted no file.now self.old self.new }
     {

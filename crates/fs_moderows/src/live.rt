@@ -63,7 +63,7 @@ impl<'a> Live<'a> {
         }
     }
 
-    /// The same, with an index of the rows, which are in order.
+    /// Those of these rows, which are in order and have this index, that are not over at the reading `now`.
     pub(crate) fn through(rows: &'a [Row], index: &'a FileIndex, now: u64, skew: u64) -> Live<'a>
         requires index { IsIndexOf index.now rows.now }
         requires ordered { is_ordered rows.now ≡ true }
@@ -87,7 +87,7 @@ impl<'a> Live<'a> {
         Live::through(rows, index, 0, 1)
     }
 
-    /// The same once more.
+    /// Another view of these rows, at this one's reading.
     pub(crate) fn again(&self) -> Live<'a>
         ensures { result ≡ self.now }
     {

@@ -78,7 +78,7 @@ impl ModeRows {
     /// that keeps a row on that field, else the least row by which another session was told of others what this one
     /// could make untrue. `selves` has the sessions with handles on the file, each once, with the modes of its
     /// handles together. `no` is the lease's number, which no row has, and `until` the reading at which it ends.
-    /// `Memory` where memory is wanting; the table is as it was then.
+    /// `Memory` when out of memory; the table is as it was then.
     pub fn ask_self(
         &mut self,
         alloc: Global,
@@ -117,7 +117,7 @@ impl ModeRows {
     /// what stands against it: a transaction that keeps a row on that field, else the least row by which another
     /// session may change what it tells. `selves` has the sessions with handles on the file, each once, with the modes
     /// of its handles together. `no` is the lease's number, which no row has, and `until` the reading at which it ends.
-    /// `Memory` where memory is wanting; the table is as it was then.
+    /// `Memory` when out of memory; the table is as it was then.
     pub fn ask_other(
         &mut self,
         alloc: Global,
@@ -186,7 +186,7 @@ impl ModeRows {
     }
 
     /// Drops the rows that are over at the reading `now`, as `lapse` does, and puts in these, in order; and the same in
-    /// the table beside, with the others. `Memory` where memory is wanting; both tables are as they were then.
+    /// the table beside, with the others. `Memory` when out of memory; both tables are as they were then.
     pub fn grant_all(
         &mut self,
         alloc: Global,
@@ -307,8 +307,8 @@ impl ModeRows {
         Ok(told)
     }
 
-    /// Takes the rows on files that the piece gives out of the table: these, in order of number. `Memory` where memory
-    /// is wanting; the table is as it was then.
+    /// Takes the rows on files that the piece gives out of the table: these, in order of number. `Memory` when out of
+    /// memory; the table is as it was then.
     pub fn split(&mut self, alloc: Global, piece: &MapPiece) -> Result<List<Row>, Memory>
         ensures moved { IfOk result (λ moved. moved ≡
             rows_given piece.now.prefix piece.now.given self.old) }
@@ -332,8 +332,8 @@ impl ModeRows {
         drop_given(self.rows.items_mut(), piece);
     }
 
-    /// Puts in these rows, which are on what sessions tell of modes and have new numbers. `Memory` where memory is
-    /// wanting; the table is as it was then.
+    /// Puts in these rows, which are on what sessions tell of modes and have new numbers. `Memory` when out of
+    /// memory; the table is as it was then.
     pub fn join(&mut self, alloc: Global, rows: List<Row>) -> Result<(), Memory>
         requires new { are_new self.old rows ≡ true }
         requires on_modes { are_on_modes rows ≡ true }

@@ -80,7 +80,7 @@ pub(crate) fn first_sought<'a>(
     first_in(rows, now, skew, sought)
 }
 
-/// The same, of the rows with the numbers on its file.
+/// The first row that is not over and is sought, of those whose numbers the index has on its file.
 fn first_listed<'a>(
     rows: &'a [Row],
     index: &FileIndex,
@@ -142,7 +142,7 @@ fn sought_at<'a>(
     }
 }
 
-/// The same, of all rows in turn.
+/// The first row that is not over and is sought, by a walk over all rows.
 #[tactic(auto, using(fs_rows::proofs::LiveSteps::find_step))]
 fn first_in<'a>(rows: &'a [Row], now: u64, skew: u64, sought: &Sought<'_>) -> Option<&'a Row>
     ensures { option_copied result ≡

@@ -9,7 +9,7 @@ use fs_ident::Memory;
 use fs_wire::Wire;
 use std::alloc::Global;
 
-/// Adds the one spelling of a message at the end. Where memory is wanting, nothing is added.
+/// Adds the one spelling of a message at the end. When out of memory, nothing is added.
 pub fn write(alloc: Global, m: &Msg, out: &mut Vec<u8>) -> Result<(), Memory>
     ensures ok { OnOk result (out.new.items ≡ out.old.items ++ message m.now) }
     ensures fits { OnOk result (is_readable m.now ≡ true → FitsMessage m.now) }

@@ -46,7 +46,7 @@ pub fn fits(
     fits_at(alloc, records, &rows.all(), &modes.all(), map, me, p)
 }
 
-/// The same, among the rows that are not over at a reading.
+/// Whether the parcel is one for `fits`, where only the rows that are not over at a reading count here.
 pub fn fits_at(
     alloc: Global,
     records: &Records,
@@ -86,7 +86,7 @@ fn are_distinct(records: &[(FileId, Record)]) -> bool
     files_rise(records) || are_apart(records)
 }
 
-/// The same in any order, by pairs.
+/// Whether no two records are of one file, in any order: each pair is compared.
 fn are_apart(records: &[(FileId, Record)]) -> bool
     ensures { result ≡ are_distinct records.now }
 {

@@ -18,8 +18,8 @@ use fs_record::{Parcel, Records};
 use fs_rows::Rows;
 use std::alloc::Global;
 
-/// Puts all of the parcel in its place at `me`, which manages what it gives from now on. `Memory` where memory is
-/// wanting; all is as it was then. No number stands in both tables. Each record that comes
+/// Puts all of the parcel in its place at `me`, which manages what it gives from now on. `Memory` when out of
+/// memory; all is as it was then. No number stands in both tables. Each record that comes
 /// has a next number from 1 to 4294967296: `Record::has_number_left` is the test.
 pub fn install(
     alloc: Global,
@@ -45,7 +45,7 @@ pub fn install(
     install_at(alloc, records, rows, modes, map, me, 0, 1, p)
 }
 
-/// The same at the reading `now`: the rows that are over are dropped, as `lapse` does.
+/// Puts the parcel in its place at the reading `now`: the rows that are over are dropped, as `lapse` does.
 pub fn install_at(
     alloc: Global,
     records: &mut Records,
@@ -87,7 +87,7 @@ pub fn install_at(
     }
 }
 
-/// The parcel's records and rows come into their tables, or none of them where memory is wanting.
+/// The parcel's records and rows come into their tables, or none of them when out of memory.
 fn put_in(
     alloc: Global,
     records: &mut Records,

@@ -1,10 +1,9 @@
 -- Leases that go back, and what stands in the way of a freeze or a move.
-use Rattle.std.proofs.Common.{◌≡◌, ◌∙◌, ℕ, ◌+◌, ◌≤◌, ◌<◌, ◌==◌, Bool, true, false, not, List, [], ◌∷◌, refl, sym, ap, subst, cond, inl, inr, arith}
-use Rattle.std.specs.Prelude.{◌⊎◌, ◌&&◌, ◌||◌, Option, Some, None, is_some, nat_lt, option_map}
+use Rattle.std.proofs.Common.{◌≡◌, ◌∙◌, ℕ, ◌+◌, ◌≤◌, ◌==◌, Bool, true, false, not, List, [], ◌∷◌, refl, sym, ap, subst, cond, inl, inr, arith}
+use Rattle.std.specs.Prelude.{◌&&◌, ◌||◌, Option, Some, None, is_some, nat_lt, option_map}
 use Rattle.std.specs.List.{filter, find, list_any}
 use Rattle.fs_ident.specs.In.{In}
 use Rattle.fs_ident.specs.Ident.{same}
-use Rattle.fs_ident.specs.Ordered.{put_before}
 use Rattle.fs_ident.specs.declared.actor.PathNo.{PathNo}
 use Rattle.fs_ident.specs.declared.actor.TxnNo.{TxnNo}
 use Rattle.fs_field.specs.Table.{same_txn}
@@ -12,12 +11,11 @@ use Rattle.std.proofs.lemmas.Bool.Decides.{nat_tests}
 use Rattle.fs_ident.proofs.Booleans.{both}
 use Rattle.fs_ident.proofs.Same.{same_self}
 use Rattle.fs_ident.proofs.Standing.{In-filter, In-map, In-mapped, In-put, In-put_here, none_pass}
-use Rattle.fs_path.specs.Laws.{AreGiven, FreezeFreezes, NextIsNew, NoneGoesInto, NoneGoesThrough, NumbersGoOn, ReturnsKeepNumbers, ThawTakesItsOwn, WhatGoesIsOnNoPath, WhatIsNeededStays}
-use Rattle.fs_path.specs.Leases.{PathLease, goes_into, goes_over, has_no, lesser_no, path_before, same_path_no, named_to_peer}
+use Rattle.fs_path.specs.Laws.{FreezeFreezes, NextIsNew, NoneGoesInto, NoneGoesThrough, NumbersGoOn, ReturnsKeepNumbers, ThawTakesItsOwn, WhatGoesIsOnNoPath, WhatIsNeededStays}
+use Rattle.fs_path.specs.Leases.{PathLease, goes_into, goes_over, has_no, lesser_no, path_before, named_to_peer}
 use Rattle.fs_path.specs.Numbers.{next_path}
 use Rattle.fs_path.specs.Returns.{asked_back, goes_back, is_needed}
 use Rattle.fs_path.specs.Tables.{frozen_for, lease_of}
-use Rattle.fs_path.specs.declared.having.Having.{Having}
 
 -- what passes a test and stands in a list stands among those that pass
 passes : {X : Type 0} (test : X → Bool) (x : X) (xs : List X) → In x xs → test x ≡ true → In x (filter test xs)

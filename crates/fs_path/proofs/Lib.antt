@@ -3,6 +3,8 @@ mod Rising
 mod ByFile
 mod Over
 mod Placing
-mod LeaseLaws
+mod Own
+mod Least
+pub mod LeaseLaws
 pub mod Meeting
 mod Walking

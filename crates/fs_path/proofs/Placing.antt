@@ -1,6 +1,6 @@
 -- A lease that is taken out of its place and put back, and a table of which nothing is asked back.
-use Rattle.std.proofs.Common.{◌≡◌, ◌∙◌, ℕ, zero, suc, ◌+◌, ◌<◌, ◌≤◌, Bool, true, false, not, List, [], ◌∷◌, ◌++◌, refl, sym, ap, cond, length, get_or, map, take, drop, arith}
-use Rattle.std.specs.Prelude.{◌&&◌, Option, Some, None, slice_set, slice_index_or, option_map}
+use Rattle.std.proofs.Common.{◌≡◌, ◌∙◌, ℕ, zero, suc, ◌<◌, Bool, true, false, not, List, [], ◌∷◌, refl, sym, ap, cond, length, get_or, map, arith}
+use Rattle.std.specs.Prelude.{◌&&◌, Option, Some, None, slice_set, option_map}
 use Rattle.std.specs.List.{filter, find, insert, remove}
 use Rattle.fs_path.specs.Leases.{PathLease}
 use Rattle.fs_path.specs.Returns.{asked_back, goes_back, held_after, is_needed}
@@ -21,7 +21,7 @@ absent : {X Y : Type 0} (f : X → Y) (o : Option X) → option_map f o ≡ None
 absent f None e = refl
 absent f (Some x) e = absurd (cc e)
 
-none_back : (asked : Having → Bool) (issued : List PathLease) (held : List Having) → find asked held ≡ None → held_after asked issued held ≡ held
+pub none_back : (asked : Having → Bool) (issued : List PathLease) (held : List Having) → find asked held ≡ None → held_after asked issued held ≡ held
 none_back asked issued [] e = refl
 none_back asked issued (h ∷ hs) e = by (asked h) refl e (none_back asked issued hs)
   where

@@ -265,6 +265,13 @@ before_unlike : {X : Type 0} (key : X → PathNo) (m : PathNo) (x : X) (xs : Lis
 before_unlike key m x xs i d h l e =
     unlike (key x) m (ap (path_before (key x)) (sym (same_no_is (key (get_or xs i d)) m e)) ∙ all-In (λ y. path_before (key x) (key y)) xs h (get_or xs i d) (In-there xs i d l))
 
+-- no two have one number: none behind the one of the number has it, and none before it
+pub behind_none : {X : Type 0} (key : X → PathNo) (m : PathNo) (x : X) (xs : List X) → are_rising key (x ∷ xs) ≡ true → is_numbered key m x ≡ true → list_any (is_numbered key m) xs ≡ false
+behind_none key m x xs o e = none_behind key m xs (others key m x xs e (both (first key (key x) xs) (are_rising key xs) o).0)
+
+pub ahead_unlike : {X : Type 0} (key : X → PathNo) (m : PathNo) (x : X) (xs : List X) (i : ℕ) (d : X) → are_rising key (x ∷ xs) ≡ true → i < length xs → is_numbered key m (get_or xs i d) ≡ true → is_numbered key m x ≡ false
+ahead_unlike key m x xs i d o l e = before_unlike key m x xs i d (both (first key (key x) xs) (are_rising key xs) o).0 l e
+
 abbrev pub all_but : {X : Type 0} → (X → PathNo) → PathNo → List X → List X
 all_but key m xs = filter (λ x. not (is_numbered key m x)) xs
 

@@ -1,12 +1,11 @@
 -- The walk from a file up to the root.
-use Rattle.std.proofs.Common.{◌≡◌, ◌∙◌, ℕ, zero, suc, ◌+◌, ◌≤◌, ◌<◌, Bool, true, false, not, List, [], ◌∷◌, ◌++◌, refl, sym, ap, subst, cond, length, inl, inr, arith}
-use Rattle.std.specs.Prelude.{◌⊎◌, ◌&&◌, ◌||◌, Option, Some, None, is_some, option_map}
+use Rattle.std.proofs.Common.{◌≡◌, ◌∙◌, ℕ, zero, suc, ◌+◌, Bool, true, false, not, List, [], ◌∷◌, ◌++◌, refl, sym, ap, cond, length, inl, inr}
+use Rattle.std.specs.Prelude.{◌&&◌, Option, Some, None, is_some, option_map}
 use Rattle.std.specs.FinMap.{get, keys}
-use Rattle.std.specs.List.{filter, find, list_any}
+use Rattle.std.specs.List.{filter}
 use Rattle.fs_ident.specs.In.{In}
 use Rattle.fs_ident.specs.Ident.{same}
 use Rattle.fs_ident.specs.declared.actor.TxnNo.{TxnNo}
-use Rattle.fs_ident.proofs.Booleans.{both}
 use Rattle.fs_ident.proofs.Same.{same_is}
 use Rattle.fs_field.specs.declared.path.PathAnswer.{PathAnswer}
 use Rattle.fs_field.specs.declared.path.PathAnswer.TheVariants as answer
@@ -14,7 +13,7 @@ use Rattle.fs_model.specs.Sound.{parent_of}
 use Rattle.fs_record.specs.Records.{RecordMap, node_of}
 use Rattle.fs_path.specs.Laws.{BeginsAt, EndsWith, IsRun, IsTaken, LeavingIsUsedForNothing, TakenPathsBegin, dir_of, without_leaving}
 use Rattle.fs_path.specs.Leases.{PathLease}
-use Rattle.fs_path.specs.Tables.{PathTables, frozen_for, is_leaving, lease_of, serves}
+use Rattle.fs_path.specs.Tables.{PathTables, frozen_for, is_leaving, lease_of}
 use Rattle.fs_path.specs.Walk.{answer_at, at_top, is_among, path_from, path_of, rise, rise_from, rise_to, used_for}
 use Rattle.fs_path.specs.declared.having.Having.{Having}
 use Rattle.fs_path.specs.declared.having.Having.TheVariants.{Held, Leaving}

@@ -1,15 +1,19 @@
 -- Leases by file, beside the list that has them in order of number.
-use Rattle.std.specs.Prelude.{◌≡◌, ℕ, Bool, true, false, not, ◌&&◌, List, [], ◌∷◌, Option, Some, None, if◌then◌else◌}
+use Rattle.std.specs.Prelude.{◌≡◌, ℕ, Bool, true, false, not, ◌&&◌, List, [], ◌∷◌, map, Option, Some, None, if◌then◌else◌}
 use Rattle.std.specs.BTreeMap.{BTreeMap}
 use Rattle.std.specs.FinMap.{get}
-use Rattle.std.specs.List.{filter, list_all, list_any}
+use Rattle.std.specs.List.{filter, find, list_all, list_any}
 use Rattle.fs_ident.specs.Ident.{same}
 use Rattle.fs_ident.specs.Maps.{map_of}
-use Rattle.fs_ident.specs.Ordered.{put_before}
+use Rattle.fs_ident.specs.Ordered.{Keyed, put_before}
 use Rattle.fs_ident.specs.declared.actor.PathNo.{PathNo}
-use Rattle.fs_path.specs.Leases.{PathLease, goes_over, path_before, same_path_no}
-use Rattle.fs_path.specs.Returns.{recalls}
+use Rattle.fs_map.specs.Map.{Owners, begins, is_given}
+use Rattle.fs_path.specs.Leases.{PathLease, goes_over, lesser_no, path_before, same_path_no}
+use Rattle.fs_path.specs.Returns.{is_of, recalls}
+use Rattle.fs_path.specs.Tables.{lease_of}
 use Rattle.fs_path.specs.Walk.{is_among}
+use Rattle.fs_path.specs.declared.having.Having.{Having}
+use Rattle.fs_path.specs.declared.having.Having.TheVariants.{Held, Leaving}
 use Rattle.fs_path.specs.declared.index.FileIndex.{FileIndex}
 
 -- ## Numbers
@@ -96,3 +100,51 @@ IsNoted is_new name path old new =
 -- none of these has the number
 abbrev pub IsNewAmong : {X : Type 0} → (X → PathNo) → PathNo → List X → Bool → Type 0
 IsNewAmong key number xs is_new = is_new ≡ true → list_any (is_numbered key number) xs ≡ false
+
+-- ## Beside the leases from other servers
+
+abbrev pub no_of_held : Having → PathNo
+no_of_held h = (lease_of h).no
+
+-- the lease, as if its path were its own file alone
+abbrev pub at_own : Having → PathLease
+at_own h = record { no = (lease_of h).no; peer = (lease_of h).peer; file = (lease_of h).file; path = (lease_of h).file ∷ [] }
+
+-- while the index is whole each of them stands in it, at its own file alone, and their numbers rise
+abbrev pub IsOwn : FileIndex → List Having → Type 0
+IsOwn index held = IsOver index (map at_own held)
+
+-- the lease of the number, where it may be used
+abbrev pub if_used : Option Having → Option Having
+if_used None = None
+if_used (Some (Held l)) = Some (Held l)
+if_used (Some (Leaving l)) = None
+
+abbrev pub used_of : PathNo → List Having → Option Having
+used_of number held = if_used (find (is_of number) held)
+
+abbrev pub first_of : Option Having → Option Having → Option Having
+first_of None other = other
+first_of (Some h) other = Some h
+
+-- the first of these names whose lease may be used
+abbrev pub used_named : List (ℕ × PathNo) → List Having → Option Having
+used_named [] held = None
+used_named (name ∷ names) held = first_of (used_of name.1 held) (used_named names held)
+
+-- ## Below a prefix
+
+-- the first number of the file, where it is below the prefix and the server's
+abbrev pub number_into : Owners → ℕ → List ℕ → List ℕ × List (ℕ × PathNo) → Option PathNo
+number_into owners me prefix e = if is_given owners me prefix e.0 then first_named e.1 else None
+
+-- the least of these files
+abbrev pub least_into : Owners → ℕ → List ℕ → Keyed (List (ℕ × PathNo)) → Option PathNo
+least_into owners me prefix [] = None
+least_into owners me prefix (e ∷ es) = lesser_no (number_into owners me prefix e) (least_into owners me prefix es)
+
+-- of files from the prefix on, in order: the first that does not begin with it ends them
+abbrev pub least_from : Owners → ℕ → List ℕ → Keyed (List (ℕ × PathNo)) → Option PathNo
+least_from owners me prefix [] = None
+least_from owners me prefix (e ∷ es) =
+    if begins prefix e.0 then lesser_no (number_into owners me prefix e) (least_from owners me prefix es) else None

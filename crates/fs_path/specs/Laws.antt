@@ -51,7 +51,8 @@ pub record IsTaken (t : PathTables) (m : RecordMap) (file : List ℕ) (path : Li
   pub begins : BeginsAt t m top below path
 
 abbrev pub TakenPathsBegin : Type 0
-TakenPathsBegin = (t : PathTables) (m : RecordMap) (file : List ℕ) (path : List (List ℕ)) → path_of t m file ≡ Path path → IsTaken t m file path
+TakenPathsBegin =
+    (t : PathTables) (m : RecordMap) (file : List ℕ) (path : List (List ℕ)) → path_of t m file ≡ Path path → IsTaken t m file path
 
 -- the table without the leases that leave
 abbrev pub without_leaving : PathTables → PathTables
@@ -78,7 +79,8 @@ WhatIsNeededStays =
 
 -- where no number is told, no path that was given out goes over the file
 abbrev pub NoneGoesThrough : Type 0
-NoneGoesThrough = (file : List ℕ) (issued : List PathLease) → through file issued ≡ None → (l : PathLease) → In l issued → goes_over file l ≡ false
+NoneGoesThrough =
+    (file : List ℕ) (issued : List PathLease) → through file issued ≡ None → (l : PathLease) → In l issued → goes_over file l ≡ false
 
 -- nor does any, given out or from another server, go over a file below the prefix that is the server's
 abbrev pub NoneGoesInto : Type 0
@@ -91,7 +93,8 @@ NoneGoesInto =
 
 -- a file that a transaction keeps is frozen
 abbrev pub FreezeFreezes : Type 0
-FreezeFreezes = (file : List ℕ) (txn : TxnNo) (frozen : List (List ℕ × TxnNo)) → is_some (frozen_for file (with_frozen file txn frozen)) ≡ true
+FreezeFreezes =
+    (file : List ℕ) (txn : TxnNo) (frozen : List (List ℕ × TxnNo)) → is_some (frozen_for file (with_frozen file txn frozen)) ≡ true
 
 -- once a transaction is over it keeps none, and others keep theirs
 abbrev pub ThawTakesItsOwn : Type 0

@@ -87,7 +87,7 @@ fn any_over(issued: &[Issued], over: &FileIndex, file: &FileId) -> bool
     }
 }
 
-/// The same, path after path.
+/// Whether one of these paths goes over the file, by a walk over all paths.
 #[tactic(auto, using(crate::proofs::Steps::any_step))]
 fn walk_over(issued: &[Issued], file: &FileId) -> bool
     ensures { result ≡ list_any (goes_over file.now) issued.now }

@@ -1,16 +1,17 @@
 //! Leases and frozen files that join a table, in order.
 ghost use Rattle.std.specs.Prelude.{◌≡◌, ◌+◌, ◌<◌, ◌≤◌, true, length, unwrap_or, vec_capacity, vec_len, IfOk, OnOk, OnErr};
 ghost use Rattle.std.specs.List.{position};
-ghost use Rattle.fs_path.specs.Index.{IsNewAmong, IsOver, are_rising, no_of_issued};
+ghost use Rattle.fs_path.specs.Index.{IsNewAmong, IsOver, IsOwn, are_rising, no_of_held, no_of_issued};
 ghost use Rattle.fs_path.specs.Leases.{comes_before, path_before};
 ghost use Rattle.fs_path.specs.Tables.{lease_of, with_all_frozen, with_frozen, with_held, with_issued};
 
 use crate::having::Having;
 use crate::index::FileIndex;
 use crate::issued::Issued;
-use crate::numbered::{has_issued, place_behind_issued};
+use crate::numbered::{has_held, has_issued, place_behind_held, place_behind_issued};
 use fs_ident::{FileId, List, Memory, PathNo, Twin, TxnNo, add_copy};
 use std::alloc::Global;
+use std::slice;
 
 /// One lease more that is given out: that of the file with this path, to that server.
 pub(crate) fn issue(
@@ -41,7 +42,7 @@ fn is_new_among(issued: &[Issued], over: &FileIndex, no: PathNo) -> bool
     over.is_whole() && !has_issued(issued, no)
 }
 
-/// One lease more; it is spent where memory is wanting.
+/// One lease more; it is spent when out of memory.
 fn put_issued(issued: &mut Vec<Issued>, rising: bool, l: Issued) -> Result<(), Memory>
     requires { rising ≡ true → are_rising no_of_issued issued.old.items ≡ true }
     ensures ok { OnOk result (issued.new.items ≡ with_issued l issued.old.items) }
@@ -57,12 +58,43 @@ fn put_issued(issued: &mut Vec<Issued>, rising: bool, l: Issued) -> Result<(), M
     }
 }
 
-/// One lease more from another server; it is spent where memory is wanting.
-pub(crate) fn put_held(held: &mut Vec<Having>, h: Having) -> Result<(), Memory>
+/// One lease more from another server.
+pub(crate) fn take_held(
+    held: &mut Vec<Having>,
+    own: &mut FileIndex,
+    alloc: Global,
+    h: Having,
+    file: &FileId,
+) -> Result<(), Memory>
+    requires file { file.now ≡ (lease_of h).file }
+    requires index { IsOwn own.old held.old.items }
+    ensures ok { OnOk result (held.new.items ≡ with_held h held.old.items) }
+    ensures err { OnErr result (held.new.items ≡ held.old.items) }
+    ensures index { IsOwn own.new held.new.items }
+{
+    let name = h.named_to_peer();
+    let is_new = is_new_held(held, own, name.1);
+    put_held(held, own.is_whole(), h)?;
+    own.note(alloc, slice::from_ref(file), name, is_new);
+    Ok(())
+}
+
+/// Whether none from another server has the number. It says so only while the index is whole.
+#[tactic(auto, using(crate::proofs::Own::own_rises))]
+fn is_new_held(held: &[Having], own: &FileIndex, no: PathNo) -> bool
+    requires { IsOwn own.now held.now }
+    ensures { IsNewAmong no_of_held no held.now result }
+{
+    own.is_whole() && !has_held(held, no)
+}
+
+/// One lease more from another server; it is spent when out of memory.
+fn put_held(held: &mut Vec<Having>, rising: bool, h: Having) -> Result<(), Memory>
+    requires { rising ≡ true → are_rising no_of_held held.old.items ≡ true }
     ensures ok { OnOk result (held.new.items ≡ with_held h held.old.items) }
     ensures err { OnErr result (held.new.items ≡ held.old.items) }
 {
-    let at = held_place(held, h.no());
+    let at = held_place(held, rising, h.no());
     match held.insert(at, h) {
         Ok(()) => Ok(()),
         Err(full) => {
@@ -72,7 +104,7 @@ pub(crate) fn put_held(held: &mut Vec<Having>, h: Having) -> Result<(), Memory>
     }
 }
 
-/// The transaction keeps each of these files, one behind the other: all of them, or none where memory is wanting.
+/// The transaction keeps each of these files, one behind the other: all of them, or none when out of memory.
 pub(crate) fn put_all_frozen(
     alloc: Global,
     frozen: &mut Vec<(FileId, TxnNo)>,
@@ -137,7 +169,7 @@ fn issued_place(issued: &[Issued], rising: bool, no: PathNo) -> usize
     }
 }
 
-/// The same, where the numbers may not rise.
+/// Where the first lease with a greater number stands, or the length; the numbers need not rise.
 #[tactic(auto, using(fs_field::proofs::Places::place_is, fs_field::proofs::Places::place_step))]
 fn walk_issued_place(issued: &[Issued], no: PathNo) -> usize
     ensures place { result ≡ unwrap_or (position (λ x. path_before no x.no) issued.now)
@@ -152,9 +184,23 @@ fn walk_issued_place(issued: &[Issued], no: PathNo) -> usize
     issued.len()
 }
 
-/// The same of the leases from other servers.
+/// Where the first lease from another server with a greater number stands, or the length.
+fn held_place(held: &[Having], rising: bool, no: PathNo) -> usize
+    requires { rising ≡ true → are_rising no_of_held held.now ≡ true }
+    ensures place { result ≡ unwrap_or (position (λ x. path_before no (lease_of x).no) held.now)
+        (length held.now) }
+    ensures within { result ≤ length held.now }
+{
+    if rising {
+        place_behind_held(held, no)
+    } else {
+        walk_held_place(held, no)
+    }
+}
+
+/// Where that one stands, found lease after lease: the numbers may not rise.
 #[tactic(auto, using(fs_field::proofs::Places::place_is, fs_field::proofs::Places::place_step))]
-fn held_place(held: &[Having], no: PathNo) -> usize
+fn walk_held_place(held: &[Having], no: PathNo) -> usize
     ensures place { result ≡ unwrap_or (position (λ x. path_before no (lease_of x).no) held.now)
         (length held.now) }
     ensures within { result ≤ length held.now }

@@ -34,7 +34,7 @@ pub(crate) fn goes_into(files: &[FileId], map: &FileMap, me: u8, prefix: &FileId
 }
 
 /// Whether the file is below the prefix and `me`'s.
-fn is_given(map: &FileMap, me: u8, prefix: &FileId, file: &FileId) -> bool
+pub(crate) fn is_given(map: &FileMap, me: u8, prefix: &FileId, file: &FileId) -> bool
     ensures { result ≡ is_given map.now me prefix.now file.now }
 {
     file.begins(prefix) && map.owner(file).1 == me

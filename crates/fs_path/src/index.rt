@@ -1,16 +1,17 @@
 //! Leases by file: at each file their numbers in order, each with the server at its other end. A look-up, a name more and a name
 //! less cost a search by halves among the files, and one among the names at that file.
 ghost use Rattle.std.specs.Prelude.{◌≡◌, true, false, ℕ, List as Seq, IfOk, OnOk, [], ◌≤◌, length, unwrap_or};
-ghost use Rattle.std.specs.FinMap.{get, insert};
+ghost use Rattle.std.specs.FinMap.{entries, get, insert};
 ghost use Rattle.std.specs.List.{position};
 ghost use Rattle.std.specs.Option.{option_copied};
 ghost use Rattle.fs_ident.specs.Maps.{map_of};
-ghost use Rattle.fs_path.specs.Leases.{path_before};
+ghost use Rattle.fs_path.specs.Leases.{lesser_no, path_before};
 ghost use Rattle.fs_path.specs.Walk.{is_among};
-ghost use Rattle.fs_path.specs.Index.{AddsUnmet, AreRisingAt, ChangesAmong, ChangesAt, IsNoted, IsOver, are_rising, is_numbered, named_at, no_of_named, with_named, without_named};
+ghost use Rattle.fs_path.specs.Index.{AddsUnmet, AreRisingAt, ChangesAmong, ChangesAt, IsNoted, IsOver, are_rising, first_named, is_numbered, least_into, named_at, no_of_named, number_into, with_named, without_named};
 
-use crate::files::goes_over;
+use crate::files::{goes_over, is_given};
 use fs_ident::{FileId, List, Memory, PathNo, Twin, copy_map};
+use fs_map::FileMap;
 use std::alloc::Global;
 use std::collections::BTreeMap;
 
@@ -62,7 +63,15 @@ impl FileIndex {
         }
     }
 
-    /// One lease more at each of the files. It is not whole any more where the number is no new one or memory is wanting.
+    /// The least number at the files below the prefix that are `me`'s.
+    pub(crate) fn least_into(&self, map: &FileMap, me: u8, prefix: &FileId) -> Option<PathNo>
+        ensures { result ≡ least_into map.now me prefix.now (entries (map_of self.now.files)) }
+    {
+        least_into(&self.files, map, me, prefix)
+    }
+
+    /// One lease more at each of the files. It is not whole any more where the number is no new one, or when out of
+    /// memory.
     pub(crate) fn note(&mut self, alloc: Global, files: &[FileId], name: (u8, PathNo), is_new: bool)
         requires { self.old.whole ≡ true → AreRisingAt self.old.files }
         ensures { IsNoted is_new name files.now self.old self.new }
@@ -86,6 +95,63 @@ impl FileIndex {
         for file in files {
             forget_at(&mut self.files, file, no);
         }
+    }
+}
+
+/// The least number at the files below the prefix that are `me`'s: those below it stand together, from it on.
+fn least_into(
+    by_file: &BTreeMap<FileId, List<(u8, PathNo)>>,
+    map: &FileMap,
+    me: u8,
+    prefix: &FileId,
+) -> Option<PathNo>
+    ensures { result ≡ least_into map.now me prefix.now (entries (map_of by_file.now)) }
+{
+    let mut least = None;
+    for entry in by_file.range(prefix..) {
+        if !entry.0.begins(prefix) {
+            return least;
+        }
+        least = lesser(least, number_into(map, me, prefix, entry.0, entry.1));
+    }
+    least
+}
+
+/// The first number at the file, where it is below the prefix and `me`'s.
+fn number_into(
+    map: &FileMap,
+    me: u8,
+    prefix: &FileId,
+    file: &FileId,
+    names: &List<(u8, PathNo)>,
+) -> Option<PathNo>
+    ensures { result ≡ number_into map.now me prefix.now (file.now, names.now) }
+{
+    if is_given(map, me, prefix, file) {
+        first_no(names.as_slice())
+    } else {
+        None
+    }
+}
+
+/// The first number of some names.
+pub(crate) fn first_no(names: &[(u8, PathNo)]) -> Option<PathNo>
+    ensures { result ≡ first_named names.now }
+{
+    match names.first() {
+        Some(name) => Some(name.1),
+        None => None,
+    }
+}
+
+/// The lesser of two numbers, of which either may be wanting.
+pub(crate) fn lesser(first: Option<PathNo>, second: Option<PathNo>) -> Option<PathNo>
+    ensures { result ≡ lesser_no first second }
+{
+    match (first, second) {
+        (None, _) => second,
+        (Some(_), None) => first,
+        (Some(a), Some(b)) => { if b < a { second } else { first } }
     }
 }
 
@@ -115,7 +181,8 @@ fn add_unmet(
 ) -> Result<(), Memory>
     requires { is_among file.now met.now ≡ false →
         are_rising no_of_named (named_at by_file.old file.now) ≡ true }
-    ensures { OnOk result (AddsUnmet name (is_among file.now met.now) file.now by_file.old by_file.new) }
+    ensures { OnOk result
+        (AddsUnmet name (is_among file.now met.now) file.now by_file.old by_file.new) }
 {
     if goes_over(met, file) {
         Ok(())

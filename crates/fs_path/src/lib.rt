@@ -1,12 +1,14 @@
 //! Path leases: a server that has a file's directory hands the path from the root to the file down to the server that has the file,
 //! and asks it back before a file on it moves.
 //!
-//! Leases stand in order of number, and those given out also at each file of their paths. So of those given out a call costs what it
-//! names: `issued_to` a search by halves, `through` one look-up of the file, `recall_through` besides it what it tells, `issue` and
-//! `release` such a search and a look-up of each file on the path, and moving up what stands behind in a list. Whether a path goes over a
-//! file is one look-up wherever it is asked. Those from other servers are gone through one after another; so are all, where a part of the
-//! files changes servers or one had lease is asked back; `freeze`, `thaw` and `frozen` go through the files that transactions keep. Where
-//! memory was wanting for the index, or one number was given out twice, every call goes through all.
+//! Leases stand in order of number, those given out also at each file of their paths, and those from other servers at their own
+//! file. So a call costs what it names: `issued_to`, `holds` and a lease that is asked back by its number a search by halves, `through`
+//! one look-up of the file, `recall_through` and `recalled` besides it what they tell, `path_of` one of the topmost file here, `issue`
+//! and `granted` such a search and a look-up of each file that the lease stands at, and moving up what stands behind in a list. Whether a
+//! path goes over a file is one look-up wherever it is asked. The least lease given out into a part of the files costs the files there.
+//! Those from other servers are gone through one after another where one that was given out is back, and for the least into a part of
+//! the files; so are all, where that part changes servers. `freeze`, `thaw` and `frozen` go through the files that transactions keep.
+//! Where memory was wanting for an index, or one number came twice, every call that would use it goes through all.
 #![tactic(auto)]
 
 mod asked;

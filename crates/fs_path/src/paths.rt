@@ -8,11 +8,11 @@ ghost use Rattle.fs_path.specs.Walk.{path_of};
 ghost use Rattle.fs_path.specs.declared.having.Having.TheVariants.{Held as IsHeld};
 
 use crate::asked::Asked;
-use crate::entering::{issue, put_all_frozen, put_held};
+use crate::entering::{issue, put_all_frozen, take_held};
 use crate::giving::{self, drop_issued, recalls_over};
 use crate::having::Having;
 use crate::held::Held;
-use crate::index::FileIndex;
+use crate::index::{FileIndex, lesser};
 use crate::issued::Issued;
 use crate::recalled::{GiveBack, Recalled};
 use crate::{reads, walk};
@@ -32,17 +32,19 @@ pub struct Paths {
     frozen: List<(FileId, TxnNo)>,
     /// Those given out, by the files of their paths.
     over: FileIndex,
+    /// Those from other servers, each by its own file.
+    own: FileIndex,
 }
 
 impl Model for Paths {
-    ghost use Rattle.fs_path.specs.Index.{IsOver};
+    ghost use Rattle.fs_path.specs.Index.{IsOver, IsOwn};
     ghost use Rattle.fs_path.specs.Tables.{PathTables};
 
     ghost Value = { PathTables };
 
     ghost view = { λ p. record { issued = p.issued; held = p.held; frozen = p.frozen } };
 
-    ghost invariant = { λ p. IsOver p.over p.issued };
+    ghost invariant = { λ p. IsOver p.over p.issued × IsOwn p.own p.held };
 }
 
 impl Paths {
@@ -55,6 +57,7 @@ impl Paths {
             held: List::new(alloc),
             frozen: List::new(alloc),
             over: FileIndex::new(alloc),
+            own: FileIndex::new(alloc),
         }
     }
 
@@ -72,6 +75,7 @@ impl Paths {
         walk::path_of(
             alloc,
             self.held.as_slice(),
+            &self.own,
             self.frozen.as_slice(),
             records,
             file,
@@ -119,10 +123,13 @@ impl Paths {
         }) }
         ensures err { OnErr result (self.new ≡ self.old) }
     {
-        let (file, path) = copy_two(alloc, file, path)?;
-        put_held(
+        let (own, files) = copy_two(alloc, file, path)?;
+        take_held(
             self.held.items_mut(),
-            Having::Held(Held::new(from, no, file, path)),
+            &mut self.own,
+            alloc,
+            Having::Held(Held::new(from, no, own, files)),
+            file,
         )
     }
 
@@ -137,8 +144,8 @@ impl Paths {
     pub fn first_in(&self, prefix: &FileId, map: &FileMap, me: u8) -> Option<PathNo>
         ensures { result ≡ first_in map.now me prefix.now self.now }
     {
-        reads::lesser(
-            reads::first_issued(self.issued.as_slice(), map, me, prefix),
+        lesser(
+            reads::first_issued(self.issued.as_slice(), &self.over, map, me, prefix),
             reads::first_held(self.held.as_slice(), map, me, prefix),
         )
     }
@@ -154,11 +161,17 @@ impl Paths {
     pub fn recall_of(&self, alloc: Global, no: PathNo) -> Result<Recalled, Memory>
         ensures { IfOk result (λ r. r ≡ recalled no self.now) }
     {
-        let Some(to) = reads::held_from(self.held.as_slice(), no) else {
+        let Some(to) = reads::held_from(self.held.as_slice(), &self.own, no) else {
             return Ok(Recalled::Unheld);
         };
-        let asked = Asked::Number(no);
-        let down = giving::recalls(alloc, self.issued.as_slice(), self.held.as_slice(), &asked)?;
+        let down = giving::recalls_under(
+            alloc,
+            self.issued.as_slice(),
+            &self.over,
+            self.held.as_slice(),
+            &self.own,
+            no,
+        )?;
         Ok(Recalled::first_down(to, down))
     }
 
@@ -167,11 +180,12 @@ impl Paths {
     pub fn recall(&mut self, no: PathNo)
         ensures { self.new ≡ after_recalled no self.old }
     {
-        giving::give_back(
+        giving::give_one_back(
             self.held.items_mut(),
+            &mut self.own,
             self.issued.as_slice(),
             &self.over,
-            &Asked::Number(no),
+            no,
         );
     }
 
@@ -182,16 +196,23 @@ impl Paths {
         ensures state { OnOk result (self.new ≡ after_recalled no self.old) }
         ensures err { OnErr result (self.new ≡ self.old) }
     {
-        let Some(to) = reads::held_from(self.held.as_slice(), no) else {
+        let Some(to) = reads::held_from(self.held.as_slice(), &self.own, no) else {
             return Ok(Recalled::Unheld);
         };
-        let asked = Asked::Number(no);
-        let down = giving::recalls(alloc, self.issued.as_slice(), self.held.as_slice(), &asked)?;
-        giving::give_back(
-            self.held.items_mut(),
+        let down = giving::recalls_under(
+            alloc,
             self.issued.as_slice(),
             &self.over,
-            &asked,
+            self.held.as_slice(),
+            &self.own,
+            no,
+        )?;
+        giving::give_one_back(
+            self.held.items_mut(),
+            &mut self.own,
+            self.issued.as_slice(),
+            &self.over,
+            no,
         );
         Ok(Recalled::first_down(to, down))
     }
@@ -219,6 +240,7 @@ impl Paths {
         drop_issued(self.issued.items_mut(), &mut self.over, no);
         giving::give_back(
             self.held.items_mut(),
+            &mut self.own,
             self.issued.as_slice(),
             &self.over,
             &Asked::Leaving,
@@ -266,6 +288,7 @@ impl Paths {
     {
         giving::give_back(
             self.held.items_mut(),
+            &mut self.own,
             self.issued.as_slice(),
             &self.over,
             &Asked::Into(map, me, prefix),
@@ -299,7 +322,7 @@ impl Paths {
         self.freeze_all(alloc, slice::from_ref(file), txn)
     }
 
-    /// The transaction keeps each of these files where it is: all of them, or none where memory is wanting.
+    /// The transaction keeps each of these files where it is: all of them, or none when out of memory.
     pub fn freeze_all(&mut self, alloc: Global, files: &[FileId], txn: TxnNo) -> Result<(), Memory>
         ensures ok { OnOk result (self.new ≡
             record self.old { frozen = with_all_frozen txn files.now self.old.frozen }) }
@@ -333,7 +356,7 @@ impl Paths {
     pub fn holds(&self, no: PathNo) -> bool
         ensures { result ≡ holds no self.now.held }
     {
-        reads::holds(self.held.as_slice(), no)
+        reads::holds(self.held.as_slice(), &self.own, no)
     }
 }
 
@@ -341,6 +364,7 @@ impl Twin for Paths {
     fn copy(&self, alloc: Global) -> Result<Paths, Memory> {
         let frozen = self.frozen.copy(alloc)?;
         let over = self.over.copy(alloc)?;
+        let own = self.own.copy(alloc)?;
         let issued = self.issued.copy(alloc)?;
         match self.held.copy(alloc) {
             Ok(held) => Ok(Paths {
@@ -348,6 +372,7 @@ impl Twin for Paths {
                 held,
                 frozen,
                 over,
+                own,
             }),
             Err(e) => {
                 issued.discard();
@@ -363,11 +388,13 @@ impl Twin for Paths {
             held,
             frozen,
             over,
+            own,
         } = self;
         issued.discard();
         held.discard();
         frozen.discard();
         drop(over);
+        drop(own);
     }
 }
 

@@ -2,16 +2,16 @@
 ghost use Rattle.std.specs.Prelude.{◌≡◌, true, IfOk, option_map};
 ghost use Rattle.std.specs.List.{find};
 ghost use Rattle.std.specs.Option.{option_copied};
-ghost use Rattle.fs_path.specs.Index.{IsOver, are_rising, first_named, no_of_issued};
-ghost use Rattle.fs_path.specs.Leases.{PathLease, goes_into, goes_over, has_no, lesser_no};
+ghost use Rattle.fs_path.specs.Index.{IsOver, IsOwn, are_rising, no_of_held, no_of_issued};
+ghost use Rattle.fs_path.specs.Leases.{PathLease, goes_into, goes_over, has_no};
 ghost use Rattle.fs_path.specs.Returns.{held_from};
 ghost use Rattle.fs_path.specs.Tables.{frozen_for, holds, issued_to, lease_of, through};
 ghost use Rattle.fs_path.specs.Walk.{used_for};
 
 use crate::having::Having;
-use crate::index::FileIndex;
+use crate::index::{FileIndex, first_no};
 use crate::issued::Issued;
-use crate::numbered::place_of_issued;
+use crate::numbered::{has_held, place_of_held, place_of_issued};
 use crate::used::Used;
 use fs_ident::{FileId, List, Memory, PathNo, TxnNo};
 use fs_map::FileMap;
@@ -39,7 +39,7 @@ fn found_issued_to(issued: &[Issued], no: PathNo) -> Option<u8>
     }
 }
 
-/// The same, lease after lease.
+/// The server to which the lease of the number is given out, by a walk over all leases.
 #[tactic(auto, using(crate::proofs::Steps::find_step))]
 fn walk_issued_to(issued: &[Issued], no: PathNo) -> Option<u8>
     ensures { result ≡ issued_to no issued.now }
@@ -53,8 +53,20 @@ fn walk_issued_to(issued: &[Issued], no: PathNo) -> Option<u8>
 }
 
 /// Whether the lease of the number is had.
+pub(crate) fn holds(held: &[Having], own: &FileIndex, no: PathNo) -> bool
+    requires { IsOwn own.now held.now }
+    ensures { result ≡ holds no held.now }
+{
+    if own.is_whole() {
+        has_held(held, no)
+    } else {
+        walk_holds(held, no)
+    }
+}
+
+/// Whether it is, found lease after lease.
 #[tactic(auto, using(crate::proofs::Steps::any_step))]
-pub(crate) fn holds(held: &[Having], no: PathNo) -> bool
+fn walk_holds(held: &[Having], no: PathNo) -> bool
     ensures { result ≡ holds no held.now }
 {
     for h in held {
@@ -66,8 +78,30 @@ pub(crate) fn holds(held: &[Having], no: PathNo) -> bool
 }
 
 /// The server from which the lease of the number is had.
+pub(crate) fn held_from(held: &[Having], own: &FileIndex, no: PathNo) -> Option<u8>
+    requires { IsOwn own.now held.now }
+    ensures { result ≡ held_from no held.now }
+{
+    if own.is_whole() {
+        found_held_from(held, no)
+    } else {
+        walk_held_from(held, no)
+    }
+}
+
+fn found_held_from(held: &[Having], no: PathNo) -> Option<u8>
+    requires { are_rising no_of_held held.now ≡ true }
+    ensures { result ≡ held_from no held.now }
+{
+    match place_of_held(held, no) {
+        Some(at) => Some(held[at].named_to_peer().0),
+        None => None,
+    }
+}
+
+/// That server, found lease after lease.
 #[tactic(auto, using(crate::proofs::Steps::find_step))]
-pub(crate) fn held_from(held: &[Having], no: PathNo) -> Option<u8>
+fn walk_held_from(held: &[Having], no: PathNo) -> Option<u8>
     ensures { result ≡ held_from no held.now }
 {
     for h in held {
@@ -87,16 +121,6 @@ pub(crate) fn through(issued: &[Issued], over: &FileIndex, file: &FileId) -> Opt
         first_no(over.at(file))
     } else {
         walk_through(issued, file)
-    }
-}
-
-/// The first number of some names.
-fn first_no(names: &[(u8, PathNo)]) -> Option<PathNo>
-    ensures { result ≡ first_named names.now }
-{
-    match names.first() {
-        Some(name) => Some(name.1),
-        None => None,
     }
 }
 
@@ -126,13 +150,27 @@ fn walk_through(issued: &[Issued], file: &FileId) -> Option<PathNo>
 }
 
 /// The first one given out whose path goes over a file below the prefix that is `me`'s.
-#[tactic(auto, using(crate::proofs::Steps::find_step))]
 pub(crate) fn first_issued(
     issued: &[Issued],
+    over: &FileIndex,
     map: &FileMap,
     me: u8,
     prefix: &FileId,
 ) -> Option<PathNo>
+    requires { IsOver over.now issued.now }
+    ensures { result ≡ option_map (λ (l : PathLease). l.no)
+        (find (goes_into map.now me prefix.now) issued.now) }
+{
+    if over.is_whole() {
+        over.least_into(map, me, prefix)
+    } else {
+        walk_first_issued(issued, map, me, prefix)
+    }
+}
+
+/// That one, found path after path.
+#[tactic(auto, using(crate::proofs::Steps::find_step))]
+fn walk_first_issued(issued: &[Issued], map: &FileMap, me: u8, prefix: &FileId) -> Option<PathNo>
     ensures { result ≡ option_map (λ (l : PathLease). l.no)
         (find (goes_into map.now me prefix.now) issued.now) }
 {
@@ -156,17 +194,6 @@ pub(crate) fn first_held(held: &[Having], map: &FileMap, me: u8, prefix: &FileId
         }
     }
     None
-}
-
-/// The lesser of two numbers, of which either may be wanting.
-pub(crate) fn lesser(first: Option<PathNo>, second: Option<PathNo>) -> Option<PathNo>
-    ensures { result ≡ lesser_no first second }
-{
-    match (first, second) {
-        (None, _) => second,
-        (Some(_), None) => first,
-        (Some(a), Some(b)) => { if b < a { second } else { first } }
-    }
 }
 
 /// The first transaction that keeps the file.

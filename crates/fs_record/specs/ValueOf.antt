@@ -56,7 +56,9 @@ value_of m s field = value_at s field (node_of (get m (file_of field)))
 -- the session with the modes so far, with those of its further handles, and then the sessions behind it
 abbrev pub selves_from : Session → Modes → List Handle → List (Session × Modes)
 selves_from s modes [] = (s, modes) ∷ []
-selves_from s modes (x ∷ xs) = if x.session.0 == s.0 then selves_from s (or modes x.modes) xs else (s, modes) ∷ selves_from x.session x.modes xs
+selves_from s modes (x ∷ xs) =
+    if x.session.0 == s.0 then selves_from s (or modes x.modes) xs
+    else (s, modes) ∷ selves_from x.session x.modes xs
 
 -- the sessions with handles, each once with what its handles have together
 abbrev pub selves_of : List Handle → List (Session × Modes)

@@ -9,7 +9,9 @@ use Rattle.fs_record.specs.Records.{RecordMap}
 -- of records from the prefix on, in order, those that the piece gives: the first that does not begin with it ends them
 abbrev pub given_from : List ℕ → Keyed Bool → Keyed Record → Keyed Record
 given_from prefix given [] = []
-given_from prefix given (e ∷ es) = if begins prefix e.0 then (if gives prefix given e.0 then e ∷ given_from prefix given es else given_from prefix given es) else []
+given_from prefix given (e ∷ es) =
+    if begins prefix e.0 then (if gives prefix given e.0 then e ∷ given_from prefix given es else given_from prefix given es)
+    else []
 
 -- the records without those of these files, the last taken away first
 abbrev pub taken_back : List (List ℕ) → RecordMap → RecordMap

@@ -35,7 +35,7 @@ pub fn others_have(handles: &[Handle], session: Session, mode: Mode) -> bool
 }
 
 /// The sessions with handles, each once with what its handles have together, for handles in order of session. `Memory`
-/// where memory is wanting.
+/// when out of memory.
 pub fn selves(alloc: Global, handles: &[Handle]) -> Result<List<(Session, Modes)>, Memory>
     ensures { IfOk result (λ told. told ≡ selves_of handles.now) }
 {

@@ -38,7 +38,7 @@ pub fn is_open(kept: &Record) -> bool
     !kept.node.handles.is_empty()
 }
 
-/// The same of a file, which may have no record.
+/// Whether some session has a handle on the file of this identifier; one without a record is not open.
 #[tactic(auto, using(fs_ident::proofs::MapsOf::maps))]
 fn is_open_at(records: &BTreeMap<FileId, Record>, file: &FileId) -> bool
     ensures { result ≡ is_open_at (map_of records.now) file.now }
@@ -89,7 +89,7 @@ pub fn settle_all(
     }
 }
 
-/// The same, of the files of these records.
+/// Takes away the marks of those files of these records that are not open.
 pub fn settle_these(
     marks: &mut BTreeMap<FileId, Mark>,
     records: &BTreeMap<FileId, Record>,
@@ -103,7 +103,7 @@ pub fn settle_these(
     }
 }
 
-/// The same, of the files that the effects change.
+/// Takes away the marks of those files that the effects change and that are not open.
 fn settle_changed(
     marks: &mut BTreeMap<FileId, Mark>,
     records: &BTreeMap<FileId, Record>,
@@ -175,7 +175,7 @@ pub fn take_away(
     settle(marks, records, e.changed_file());
 }
 
-/// Does the effects in order, or none of them where memory is wanting.
+/// Does the effects in order, or none of them when out of memory.
 pub fn apply_all(
     alloc: Global,
     marks: &mut BTreeMap<FileId, Mark>,
@@ -198,7 +198,7 @@ pub fn apply_all(
     done
 }
 
-/// Marks the files that the effects open. Where memory is wanting some of them are marked.
+/// Marks the files that the effects open. When out of memory some of them are marked.
 fn note_all(
     alloc: Global,
     marks: &mut BTreeMap<FileId, Mark>,
@@ -253,7 +253,7 @@ pub fn split(
     Ok(moved)
 }
 
-/// Gives these files their records; these are the files. Where memory is wanting nothing changed.
+/// Gives these files their records; these are the files. When out of memory nothing changed.
 pub fn join(
     alloc: Global,
     marks: &mut BTreeMap<FileId, Mark>,
@@ -290,7 +290,7 @@ fn open_among(alloc: Global, more: &[(FileId, Record)]) -> Result<List<FileId>, 
     Ok(files)
 }
 
-/// Marks these files. Where memory is wanting some of them are marked.
+/// Marks these files. When out of memory some of them are marked.
 fn note_files(
     alloc: Global,
     marks: &mut BTreeMap<FileId, Mark>,

@@ -78,7 +78,7 @@ pub fn leave_files(records: &mut BTreeMap<FileId, Record>, files: &[FileId])
     }
 }
 
-/// The same, of the files of these records.
+/// Drops the records of the files that stand in this list, and looks at no other.
 pub fn leave_these(records: &mut BTreeMap<FileId, Record>, moved: &[(FileId, Record)])
     ensures { map_of records.new ≡ records_without (keys_of moved.now) (map_of records.old) }
 {
@@ -166,7 +166,7 @@ fn take_one(
     }
 }
 
-/// Gives these files their records; these are the files. Where memory is wanting those that came are taken away again.
+/// Gives these files their records; these are the files. When out of memory those that came are taken away again.
 pub fn join(
     alloc: Global,
     records: &mut BTreeMap<FileId, Record>,

@@ -147,7 +147,7 @@ impl Records {
     }
 
     /// Does the effect. Where its file (for a name its directory) has no record nothing changes, unless the file
-    /// begins to live. Where memory is wanting nothing changes.
+    /// begins to live. When out of memory nothing changes.
     pub fn apply(&mut self, alloc: Global, e: &Effect) -> Result<(), Memory>
         ensures ok { OnOk result (self.new ≡ records_after self.old e.now) }
         ensures values { OnOk result ((s : TheSession) (field : TheField) → is_other field ≡ false →
@@ -158,7 +158,7 @@ impl Records {
         marks::apply(alloc, &mut self.marks, &mut self.records, e)
     }
 
-    /// Does the effects in order, or none of them where memory is wanting; nothing has changed then. `is_undoable` is
+    /// Does the effects in order, or none of them when out of memory; nothing has changed then. `is_undoable` is
     /// the test of which effects it takes. It copies no record: of each effect it keeps what the effect changes.
     pub fn apply_all(&mut self, alloc: Global, effects: &List<Effect>) -> Result<(), Memory>
         requires { list_all is_undoable effects.now ≡ true }
@@ -274,8 +274,8 @@ impl Records {
         moving::has_given(&self.records, piece)
     }
 
-    /// Takes the records of files that the piece gives away: these, in order of identifier. `Memory` where memory is
-    /// wanting; the records are as they were then.
+    /// Takes the records of files that the piece gives away: these, in order of identifier. `Memory` when out of
+    /// memory; the records are as they were then.
     pub fn split(
         &mut self,
         alloc: Global,
@@ -291,7 +291,7 @@ impl Records {
         marks::split(alloc, &mut self.marks, &mut self.records, piece)
     }
 
-    /// Gives these files their records; none has one here, and none stands twice. `Memory` where memory is wanting; the
+    /// Gives these files their records; none has one here, and none stands twice. `Memory` when out of memory; the
     /// records are as they were then.
     pub fn join(&mut self, alloc: Global, records: List<(FileId, Record)>) -> Result<(), Memory>
         requires records { AreEachRecords records }
@@ -304,7 +304,7 @@ impl Records {
         Ok(())
     }
 
-    /// The same: which files these are.
+    /// Gives these files their records, as `join` does, and tells which files these are.
     pub fn join_noting(
         &mut self,
         alloc: Global,

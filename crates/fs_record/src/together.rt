@@ -14,7 +14,7 @@ use fs_ident::{FileId, Memory, Twin};
 use std::alloc::Global;
 use std::collections::BTreeMap;
 
-/// Does the effects in order. Where memory is wanting those that were done are taken back.
+/// Does the effects in order. When out of memory those that were done are taken back.
 pub fn apply_all(
     alloc: Global,
     records: &mut BTreeMap<FileId, Record>,
@@ -92,7 +92,7 @@ fn apply_undoably(
     }
 }
 
-/// The same for an effect that changes a part of a node.
+/// Does an effect that changes a part of a node, and tells what undoes it.
 fn change(alloc: Global, records: &mut BTreeMap<FileId, Record>, e: &Effect) -> Result<Undo, Memory>
     requires kept { AreRecords (map_of records.old) }
     requires undoable { is_undoable e.now ≡ true }

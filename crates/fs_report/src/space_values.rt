@@ -39,7 +39,7 @@ fn add_found(
     }
 }
 
-/// The same, where there is one.
+/// Adds a value for each line of this file.
 fn add_file(alloc: Global, id: &FileId, node: &Node, values: &mut Vec<Value>) -> Result<(), Memory>
     ensures { OnOk result (map view values.new.items ≡ map view values.old.items ++
         map string (file_lines id.now (Some node.now))) }

@@ -25,7 +25,8 @@ answer rows session field kind = answer_by (lock_on field rows) (find (stands_ag
 
 -- the row of a lease that is given
 abbrev pub given_row : LeaseNo → Session → Field → LeaseKind → ℕ → Row
-given_row number session field kind until = record { no = number; session = session; field = field; kind = kind; until = until; promise = None; lock = None }
+given_row number session field kind until =
+    record { no = number; session = session; field = field; kind = kind; until = until; promise = None; lock = None }
 
 -- the rows after the answer: one more where the lease is given
 abbrev pub rows_after : Asked → Row → List Row → List Row
@@ -39,4 +40,5 @@ pub record IsLeastAgainst (rows : List Row) (session : Session) (field : Field) 
   pub stands : In row rows
   pub against : stands_against session field kind row ≡ true
   pub same : row.no ≡ number
-  pub least : (other : Row) → In other rows → stands_against session field kind other ≡ true → (other ≡ row) ⊎ (no_before number other.no ≡ true)
+  pub least : (other : Row) → In other rows → stands_against session field kind other ≡ true
+      → (other ≡ row) ⊎ (no_before number other.no ≡ true)

@@ -49,7 +49,9 @@ numbers_on index field = numbers_of index.files field
 
 -- no number is on any field of the file
 abbrev pub has_none : OnFile → Bool
-has_none o = (((length o.life == 0) && (length o.names == 0)) && ((length o.info == 0) && (length o.own == 0))) && (btree_map_len o.children == 0)
+has_none o =
+    (((length o.life == 0) && (length o.names == 0)) && ((length o.info == 0) && (length o.own == 0)))
+    && (btree_map_len o.children == 0)
 
 -- the two fields are one, where their files are
 abbrev pub same_fact : Field → Field → Bool
@@ -67,7 +69,9 @@ abbrev pub ChangesIn : (List LeaseNo → List LeaseNo) → Field → OnFile → 
 ChangesIn change field old new = (f : Field) → numbers_in new f ≡ if same_fact f field then change (numbers_in old f) else numbers_in old f
 
 abbrev pub ChangesAt : (List LeaseNo → List LeaseNo) → List ℕ → BTreeMap (List ℕ) (List LeaseNo) → BTreeMap (List ℕ) (List LeaseNo) → Type 0
-ChangesAt change name old new = (q : List ℕ) → listed (get (map_of new) q) ≡ if same q name then change (listed (get (map_of old) q)) else listed (get (map_of old) q)
+ChangesAt change name old new =
+    (q : List ℕ) → listed (get (map_of new) q)
+    ≡ if same q name then change (listed (get (map_of old) q)) else listed (get (map_of old) q)
 
 abbrev pub ChangesOf : (List LeaseNo → List LeaseNo) → Field → BTreeMap (List ℕ) OnFile → BTreeMap (List ℕ) OnFile → Type 0
 ChangesOf change field old new = (f : Field) → numbers_of new f ≡ if same_field f field then change (numbers_of old f) else numbers_of old f

@@ -56,7 +56,7 @@ impl<'a> Live<'a> {
         }
     }
 
-    /// The same, with an index of the rows, which are in order.
+    /// Those of these rows, which are in order and have this index, that are not over at the reading `now`.
     pub(crate) fn through(rows: &'a [Row], index: &'a FieldIndex, now: u64, skew: u64) -> Live<'a>
         requires index { IsIndexOf index.now rows.now }
         requires ordered { is_ordered rows.now ≡ true }

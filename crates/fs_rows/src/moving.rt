@@ -134,7 +134,8 @@ pub(crate) fn are_new(
     true
 }
 
-/// The same, and none conflicts with one of these by sessions, fields and kinds alone.
+/// Whether the rows are new, as `are_new` tells, and each conflicts neither with a row here nor with one of those
+/// before it, by sessions, fields and kinds alone.
 #[tactic(auto, using(crate::proofs::Comes::fits_append, crate::proofs::Goes::all_live))]
 pub(crate) fn fit(
     rows: &[Row],

@@ -64,7 +64,7 @@ pub(crate) fn lock_on(
     lock_in(rows, now, skew, field)
 }
 
-/// The same, of the rows with the numbers on the field.
+/// The transaction that keeps the first kept row on the field, of the rows whose numbers the index has on it.
 fn lock_by(rows: &[Row], index: &FieldIndex, now: u64, skew: u64, field: &Field) -> Option<TxnNo>
     requires index { IsIndexOf index.now rows.now }
     requires ordered { is_ordered rows.now ≡ true }
@@ -77,7 +77,7 @@ fn lock_by(rows: &[Row], index: &FieldIndex, now: u64, skew: u64, field: &Field)
     }
 }
 
-/// The same, of all rows in turn.
+/// The transaction that keeps the first kept row on the field, by a walk over all rows.
 #[tactic(auto, using(crate::proofs::LiveSteps::lock_step))]
 fn lock_in(rows: &[Row], now: u64, skew: u64, field: &Field) -> Option<TxnNo>
     ensures { result ≡ lock_on field.now (filter (is_live now skew) rows.now) }
@@ -112,7 +112,7 @@ pub(crate) fn first_against<'a>(
     first_in(rows, now, skew, session, field, kind)
 }
 
-/// The same, of the rows with numbers on the fields that can be against it.
+/// The first row against the lease, of the rows whose numbers the index has on the fields that can be against it.
 fn first_by<'a>(
     rows: &'a [Row],
     index: &FieldIndex,
@@ -142,7 +142,7 @@ fn first_by<'a>(
     }
 }
 
-/// The same for a list of names, of the rows on it and on the children of its directory.
+/// The first row against a lease on a list of names, of the rows on it and on the children of its directory.
 fn first_listed<'a>(
     rows: &'a [Row],
     index: &FieldIndex,
@@ -167,7 +167,7 @@ fn first_listed<'a>(
     }
 }
 
-/// The same, of all rows in turn.
+/// The first row that keeps the session from such a lease, by a walk over all rows.
 #[tactic(auto, using(crate::proofs::LiveSteps::find_step))]
 pub fn first_in<'a>(
     rows: &'a [Row],
@@ -205,7 +205,7 @@ pub(crate) fn row<'a>(
     }
 }
 
-/// The same, of all rows in turn.
+/// The row of this number, by a walk over all rows.
 #[tactic(auto, using(crate::proofs::LiveSteps::find_step))]
 fn row_in(rows: &[Row], now: u64, skew: u64, no: LeaseNo) -> Option<&Row>
     ensures { option_copied result ≡ find (has_no no) (filter (is_live now skew) rows.now) }
@@ -255,7 +255,7 @@ pub(crate) fn has_on(
     has_in(rows, now, skew, field, session)
 }
 
-/// The same, of the rows with the numbers on the field.
+/// Whether there is a row of the session on the field, of the rows whose numbers the index has on it.
 fn has_by(
     rows: &[Row],
     index: &FieldIndex,
@@ -275,7 +275,7 @@ fn has_by(
     least_among(rows, index.on(field), now, skew, &sought).is_some()
 }
 
-/// The same, of all rows in turn.
+/// Whether there is a row of the session on the field, by a walk over all rows.
 fn has_in(rows: &[Row], now: u64, skew: u64, field: &Field, session: Session) -> bool
     ensures { result ≡ list_any (λ (r : TheRow).
         same_field r.field field.now && (r.session.0 == session.0))
@@ -310,7 +310,7 @@ pub(crate) fn holds(
     }
 }
 
-/// The same, of the row of the number.
+/// Whether the row of the number, found by the order of the numbers, is of this lease of the session.
 pub fn holds_at(
     rows: &[Row],
     now: u64,
@@ -330,7 +330,7 @@ pub fn holds_at(
     }
 }
 
-/// The same, of all rows in turn.
+/// Whether there is the row of this lease of the session, by a walk over all rows.
 fn holds_in(
     rows: &[Row],
     now: u64,
@@ -369,7 +369,7 @@ pub(crate) fn borne(
     Ok(told)
 }
 
-/// The same, in any order.
+/// The last numbers of the files right below the directory that rows are on, in any order.
 fn borne_any(
     alloc: Global,
     rows: &[Row],
@@ -390,7 +390,7 @@ fn borne_any(
     borne_in(alloc, rows, now, skew, dir)
 }
 
-/// The same, of all rows in turn.
+/// The last numbers of the files right below the directory that rows are on, by a walk over all rows.
 #[tactic(auto, using(crate::proofs::LiveSteps::borne_step))]
 fn borne_in(
     alloc: Global,
@@ -434,7 +434,7 @@ pub(crate) fn unlocked_on(
     unlocked_in(alloc, rows, now, skew, field)
 }
 
-/// The same, of all rows in turn.
+/// The numbers and sessions of the rows on the field that no transaction keeps, by a walk over all rows.
 #[tactic(auto, using(crate::proofs::LiveSteps::unlocked_step))]
 fn unlocked_in(
     alloc: Global,

@@ -69,7 +69,7 @@ impl Rows {
     /// Gives the session a lease on a field that is no part of what sessions tell of modes (`Field::tells_no_mode`
     /// is the test), or tells what stands against it: a transaction that keeps a row on the field, else the least row of another session that
     /// conflicts. `no` is the lease's number, which no row has, and `until` the reading at which it ends. `Memory`
-    /// where memory is wanting; the table is as it was then.
+    /// when out of memory; the table is as it was then.
     pub fn ask(
         &mut self,
         alloc: Global,
@@ -121,7 +121,7 @@ impl Rows {
     }
 
     /// Drops the rows that are over at the reading `now`, as `lapse` does, and puts in these, in order. `Memory`
-    /// where memory is wanting; the table is as it was then.
+    /// when out of memory; the table is as it was then.
     pub fn grant_all(
         &mut self,
         alloc: Global,
@@ -231,8 +231,8 @@ impl Rows {
         self.all().borne(alloc, dir)
     }
 
-    /// Takes the rows on files that the piece gives out of the table: these, in order of number. `Memory` where memory
-    /// is wanting; the table is as it was then.
+    /// Takes the rows on files that the piece gives out of the table: these, in order of number. `Memory` when out of
+    /// memory; the table is as it was then.
     pub fn split(&mut self, alloc: Global, piece: &MapPiece) -> Result<List<Row>, Memory>
         ensures moved { IfOk result (λ moved. moved ≡
             rows_given piece.now.prefix piece.now.given self.old) }
@@ -256,8 +256,8 @@ impl Rows {
         drop_given(self.rows.items_mut(), piece);
     }
 
-    /// Puts in these rows, which fit (`fits` is the test) and are no part of what sessions tell of modes. `Memory` where
-    /// memory is wanting; the table is as it was then.
+    /// Puts in these rows, which fit (`fits` is the test) and are no part of what sessions tell of modes. `Memory` when
+    /// out of memory; the table is as it was then.
     pub fn join(&mut self, alloc: Global, rows: List<Row>) -> Result<(), Memory>
         requires fits { fits self.old rows ≡ true }
         requires off_modes { are_off_modes rows ≡ true }

@@ -21,7 +21,7 @@ pub fn field_at(alloc: Global, words: &[Word]) -> Result<Field, Unread>
     field_by(alloc, first, operands)
 }
 
-/// The same, where the first word was parted from the others.
+/// The field that the first word and its operands name.
 fn field_by(alloc: Global, first: &Word, operands: &[Word]) -> Result<Field, Unread>
     ensures { Reads field_words FitsField result (word_of first.now ∷ words_in operands.now) }
 {

@@ -57,7 +57,7 @@ fn head_of(words: &[Word]) -> Result<Head, Unread>
     head_by(form, operands)
 }
 
-/// The same, where the word that tells the form was read.
+/// The form that this word names, with its operands.
 fn head_by(form: &Word, operands: &[Word]) -> Result<Head, Unread>
     ensures { TellsSurely IsToldHead result
         (Bare (codes "farsite") ∷ Bare (codes "1") ∷ word_of form.now ∷ words_in operands.now) }
@@ -99,7 +99,7 @@ fn servers_of(operands: &[Word]) -> Result<Head, Unread>
     servers_by(servers, skew, term)
 }
 
-/// The same, where the words between the numbers were read.
+/// The servers form with the numbers that these three words tell.
 fn servers_by(servers: &Word, skew: &Word, term: &Word) -> Result<Head, Unread>
     ensures { TellsSurely IsToldHead result
         (Bare (codes "farsite") ∷ Bare (codes "1") ∷ Bare (codes "servers") ∷

@@ -35,7 +35,7 @@ fn event_of(alloc: Global, head: Head, words: &[Word]) -> Result<Event, Unread>
     event_by(alloc, head, reading, words)
 }
 
-/// The same, where the first word was parted from the others.
+/// The event at the reading that the first word tells; the other words tell what happens.
 fn event_by(alloc: Global, head: Head, reading: &Word, words: &[Word]) -> Result<Event, Unread>
     ensures { Tells (IsToldEvent head) result (word_of reading.now ∷ words_in words.now) }
 {
@@ -53,7 +53,7 @@ fn what_of(alloc: Global, head: Head, words: &[Word]) -> Result<What, Unread>
     what_by(alloc, head, first, operands)
 }
 
-/// The same, where the first word was parted from the others.
+/// What happens, as the first word and its operands tell it.
 fn what_by(alloc: Global, head: Head, first: &Word, operands: &[Word]) -> Result<What, Unread>
     ensures { Tells (IsToldWhat head) result (word_of first.now ∷ words_in operands.now) }
 {
@@ -84,7 +84,7 @@ fn join_of(operands: &[Word]) -> Result<What, Unread>
     join_by(session)
 }
 
-/// The same, where there is one operand.
+/// The join of the session that the word names.
 fn join_by(session: &Word) -> Result<What, Unread>
     ensures { (head : Form) →
         TellsSurely (IsToldWhat head) result (Bare (codes "join") ∷ word_of session.now ∷ []) }
@@ -102,7 +102,7 @@ fn do_of(alloc: Global, head: Head, operands: &[Word]) -> Result<What, Unread>
     do_by(alloc, head, session, words)
 }
 
-/// The same, where the first operand was parted from the others.
+/// The operation, told by the words, of the session that the first operand names.
 fn do_by(alloc: Global, head: Head, session: &Word, words: &[Word]) -> Result<What, Unread>
     ensures { Tells (IsToldWhat head) result
         (Bare (codes "do") ∷ word_of session.now ∷ words_in words.now) }
@@ -121,7 +121,7 @@ fn tell_of(head: Head, operands: &[Word]) -> Result<What, Unread>
     tell_by(head, packet)
 }
 
-/// The same, where there is one operand.
+/// The delivery of the packet that the word names.
 fn tell_by(head: Head, packet: &Word) -> Result<What, Unread>
     ensures { TellsSurely (IsToldWhat head) result (Bare (codes "tell") ∷ word_of packet.now ∷ []) }
 {
@@ -141,7 +141,7 @@ fn turn_of(head: Head, operands: &[Word]) -> Result<What, Unread>
     turn_by(head, actor)
 }
 
-/// The same, where there is one operand.
+/// The turn of the actor that the word names.
 fn turn_by(head: Head, actor: &Word) -> Result<What, Unread>
     ensures { TellsSurely (IsToldWhat head) result (Bare (codes "turn") ∷ word_of actor.now ∷ []) }
 {
@@ -161,7 +161,7 @@ fn recall_of(alloc: Global, head: Head, operands: &[Word]) -> Result<What, Unrea
     recall_by(alloc, head, server, words)
 }
 
-/// The same, where the first operand was parted from the others.
+/// The recall, at the server that the first operand names, of the field that the words name.
 fn recall_by(alloc: Global, head: Head, server: &Word, words: &[Word]) -> Result<What, Unread>
     ensures { Tells (IsToldWhat head) result
         (Bare (codes "recall") ∷ word_of server.now ∷ words_in words.now) }
@@ -180,7 +180,7 @@ fn move_of(alloc: Global, head: Head, operands: &[Word]) -> Result<What, Unread>
     move_by(alloc, head, server, prefix, other)
 }
 
-/// The same, where there are three operands.
+/// The move of a prefix from one server to the other, as the three operands name them.
 fn move_by(
     alloc: Global,
     head: Head,

@@ -21,7 +21,7 @@ pub fn op_at(alloc: Global, words: &[Word]) -> Result<Op, Unread>
     op_by(alloc, first, operands)
 }
 
-/// The same, where the first word was parted from the others.
+/// The operation that the first word asks for, with its operands.
 fn op_by(alloc: Global, first: &Word, operands: &[Word]) -> Result<Op, Unread>
     ensures { Reads op_words FitsOp result (word_of first.now ∷ words_in operands.now) }
 {

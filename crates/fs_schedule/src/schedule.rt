@@ -54,7 +54,7 @@ fn within_skew(schedule: Schedule) -> Result<Schedule, ScheduleError>
     }
 }
 
-/// The same, with readings that may fall back by any time.
+/// Reads the lines of a schedule; the readings may fall back by any time.
 fn read_lines(alloc: Global, bytes: &[u8]) -> Result<Schedule, ScheduleError>
     ensures ok { IfOk result (λ s. AreLinesOf s (lines_of bytes.now)) }
     ensures form { IfOk result (λ s. FitsHead s.head) }

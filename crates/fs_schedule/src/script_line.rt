@@ -50,7 +50,7 @@ fn server_line(alloc: Global, head: Head, words: &[Word]) -> Result<Script, Unre
     server_line_by(alloc, head, first, operands)
 }
 
-/// The same, where the first word was parted from the others.
+/// The line of a server's script that begins with this word.
 fn server_line_by(
     alloc: Global,
     head: Head,
@@ -87,7 +87,7 @@ fn move_line(alloc: Global, head: Head, operands: &[Word]) -> Result<Script, Unr
     move_by(alloc, head, prefix, to)
 }
 
-/// The same, where there are two operands.
+/// The move of this prefix to this server.
 fn move_by(alloc: Global, head: Head, prefix: &Word, to: &Word) -> Result<Script, Unread>
     ensures { Reads script_words (FitsScript false head) result
         (Bare (codes "move") ∷ word_of prefix.now ∷ word_of to.now ∷ []) }

@@ -17,7 +17,7 @@ pub fn untimely_line(schedule: &Schedule) -> Option<(u64, u64)>
     }
 }
 
-/// The same of readings that may fall back by so much.
+/// The first of the events whose reading is more than `skew` before an earlier one, and the first such earlier one.
 fn first_skew(skew: u64, events: &[Event]) -> Option<(u64, u64)>
     ensures found { IfSome result (λ p. IsFirstSkew skew events.now p.0 p.1) }
     ensures none { IfNone result (IsWithinSkew skew events.now) }

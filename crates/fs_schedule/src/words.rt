@@ -47,7 +47,7 @@ fn next_word<'a>(bytes: &'a [u8]) -> Option<(Word<'a>, Option<&'a [u8]>)>
     }
 }
 
-/// The same, where the opening quote was read.
+/// The quoted word behind its opening quote, and the bytes behind the space that ends it, where one does.
 fn quoted_word<'a>(bytes: &'a [u8]) -> Option<(Word<'a>, Option<&'a [u8]>)>
     ensures fits { IfSome result (λ p. FitsWord (word_of p.0)) }
     ensures found { IfSome result (λ p. 34 ∷ bytes.now ≡

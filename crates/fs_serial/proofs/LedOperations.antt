@@ -11,3 +11,4 @@ pub mod LedSteps
 pub mod LeadSame
 pub mod NoReplies
 pub mod HearsLed
+pub mod LedCycles

@@ -7,6 +7,8 @@ pub mod ComingParts
 pub mod Arriving
 pub mod ParcelFits
 pub mod KeptPaths
+pub mod PathsBetween
+pub mod PathPeers
 pub mod PathSteps
 pub mod QuietSteps
 pub mod Replaced

@@ -38,7 +38,8 @@ pub mod KeptFrozen
 pub mod KeptOthers
 pub mod KeptClients
 pub mod KeptEvents
-pub mod KeptRuns
+pub mod KeptBegins
+pub mod Wanted
 pub mod Standing
 pub mod SourceParts
 pub mod Source
@@ -47,6 +48,7 @@ pub mod OffPaths
 pub mod QuestionsLeave
 pub mod EventsLeave
 pub mod ClientsKeep
+pub mod TellCycles
 pub mod Untold
 pub mod KeptOff
 pub mod LedWaits
@@ -56,4 +58,3 @@ pub mod AppliedLeaves
 pub mod Committed
 pub mod Concluded
 pub mod StepsKeep
-pub mod PathRuns

@@ -42,3 +42,6 @@ pub mod FirstStands
 pub mod PlacesAfter
 pub mod YesElsewhere
 pub mod DecisionPlaces
+pub mod Agreements
+pub mod Unapplied
+pub mod Cycled

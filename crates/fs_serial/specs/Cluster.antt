@@ -164,7 +164,9 @@ after_plan by rest p c = record {
   in_flight = c.in_flight;
   journal = pushed p.out.admitted c.journal;
   replied = with_told by (told_by by p.ready.change p.out.admitted) c.replied;
-  lines = with_lines by (record { client = committed p.ready (c.lines by).client; up = pushed p.out.send (c.lines by).up; down = rest }) c.lines;
+  lines = with_lines by
+      (record { client = committed p.ready (c.lines by).client; up = pushed p.out.send (c.lines by).up; down = rest })
+      c.lines;
 }
 
 pub data ClientEvent : Type 0 where
@@ -177,7 +179,8 @@ pub data ClientEvent : Type 0 where
 abbrev pub after_client : Session → ℕ → ClientEvent → Cluster → Cluster
 after_client by now (Does o) c = after_plan by (c.lines by).down (act_plan (c.lines by).client now o) c
 after_client by now Turns c = after_plan by (c.lines by).down (turn_plan (c.lines by).client now) c
-after_client by now (Hears from a) c = after_plan by (without_first (is_with from) (c.lines by).down) (answer_plan (c.lines by).client now from a) c
+after_client by now (Hears from a) c =
+    after_plan by (without_first (is_with from) (c.lines by).down) (answer_plan (c.lines by).client now from a) c
 
 -- the event can come
 abbrev pub CanCome : Session → ClientEvent → Cluster → Type 0

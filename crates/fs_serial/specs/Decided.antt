@@ -118,21 +118,28 @@ WorldStands greatest w = WorldHolds greatest w × DecidedFits w
 
 -- a server's event, but a question to lead, keeps all of it
 abbrev pub EventGoesPast : Type 0
-EventGoesPast = (greatest : ℕ) (w : World) (e : ServerEvent) → DecidedFits w → IsThere e w.ends → IsOther e → WorldHolds greatest w → WorldStands greatest (after_begun e w)
+EventGoesPast =
+    (greatest : ℕ) (w : World) (e : ServerEvent) → DecidedFits w → IsThere e w.ends → IsOther e
+    → WorldHolds greatest w → WorldStands greatest (after_begun e w)
 
 -- a client's event keeps what is decided
 abbrev pub ClientGoesPast : Type 0
-ClientGoesPast = (now : ℕ) (w : World) (by : Session) (e : ClientEvent) → CanCome by e w.ends → IsBehind w by e → DecidedFits w → DecidedFits (after_client by now e w)
+ClientGoesPast =
+    (now : ℕ) (w : World) (by : Session) (e : ClientEvent) → CanCome by e w.ends → IsBehind w by e
+    → DecidedFits w → DecidedFits (after_client by now e w)
 
 -- a delete or a rename that is led commits where its rows stand, whichever of its effects are applied and whichever are sent
 abbrev pub CommitGoesPast : Type 0
 CommitGoesPast =
     (greatest : ℕ) (w : World) (by : Session) (m : Lead) (l : TheLed) (sends : Effect → Bool) (txns : ℕ)
-    → (w.ends by).up ≡ message.Lead m ∷ [] → (w.ends by).client.led ≡ Some l → IsCommitted (sight_in w) by (settled_at by (w.ends by)) l.entry l.file
-    → IsSplit sends (led_effects m.op m.file (reply_of m.op)) → WorldStands greatest w → WorldHolds greatest (after_commit sends txns by m w)
+    → (w.ends by).up ≡ message.Lead m ∷ [] → (w.ends by).client.led ≡ Some l
+    → IsCommitted (sight_in w) by (settled_at by (w.ends by)) l.entry l.file
+    → IsSplit sends (led_effects m.op m.file (reply_of m.op)) → WorldStands greatest w
+    → WorldHolds greatest (after_commit sends txns by m w)
 
 -- a part that applies what was decided for it leaves what all hold together as it was
 abbrev pub DecideKeepsAll : Type 0
 DecideKeepsAll =
-    (greatest : ℕ) (w : World) (front its back : List Decided) → w.decided ≡ front ++ (its ++ back) → IsOwnApart (front ++ back) its → WorldStands greatest w
+    (greatest : ℕ) (w : World) (front its back : List Decided) → w.decided ≡ front ++ (its ++ back)
+    → IsOwnApart (front ++ back) its → WorldStands greatest w
     → ((sight_in (after_decide front its back w)).records ≡ (sight_in w).records) × WorldStands greatest (after_decide front its back w)

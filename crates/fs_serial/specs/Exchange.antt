@@ -124,7 +124,9 @@ ReleasesReturned x leases = Unit {0}
 -- a lease is asked for of the kind that the server gives: on a session's handles and on what it tells of a mode an
 -- exclusive one, on what others tell a shared one
 abbrev pub AsksGivenKinds : List ClientMsg → Type 0
-AsksGivenKinds up = (items : List (Field × LeaseKind)) (fresh : Option (List ℕ)) → In (Ask items fresh) up → (x : Field × LeaseKind) → In x items → kind_for x.0 x.1 ≡ x.1
+AsksGivenKinds up =
+    (items : List (Field × LeaseKind)) (fresh : Option (List ℕ)) → In (Ask items fresh) up
+    → (x : Field × LeaseKind) → In x items → kind_for x.0 x.1 ≡ x.1
 
 -- ## Leases that go back, and renewals on their way
 
@@ -161,7 +163,8 @@ RenewalsBacked skew greatest rows down leases =
 
 -- ## Together
 
-pub record ExchangeFits (skew greatest : ℕ) (given : ℕ → ℕ) (rows : List Row) (by : Session) (c : Client) (up : List ClientMsg) (down : List Answer) (now d : Settled) : Type 0 where
+pub record ExchangeFits (skew greatest : ℕ) (given : ℕ → ℕ) (rows : List Row) (by : Session)
+    (c : Client) (up : List ClientMsg) (down : List Answer) (now d : Settled) : Type 0 where
   pub one : OneExchange c c.exchange up down
   pub ships : ShipsLog c.exchange c.log
   pub front : ShipsFront up d

@@ -8,6 +8,9 @@ use Rattle.fs_ident.specs.declared.actor.Session.{Session}
 use Rattle.fs_ident.specs.declared.kind.Kind.{Kind}
 use Rattle.fs_ident.specs.declared.kind.Kind.TheVariants.{Dir}
 use Rattle.fs_field.specs.Field.{file_of}
+use Rattle.fs_field.specs.declared.field.Field.TheVariants.{Life}
+use Rattle.fs_field.specs.declared.value.Value.{Value}
+use Rattle.fs_field.specs.declared.value.Value.TheVariants as value
 use Rattle.fs_model.specs.Sound.{kind_of}
 use Rattle.fs_model.specs.declared.op.Op.{Op}
 use Rattle.fs_model.specs.declared.op.Op.TheVariants as op
@@ -50,6 +53,18 @@ IsMade journal id = is_some (made journal id) ≡ true
 -- what lives was made, and is of the kind with which it was made
 abbrev pub NodesMade : RecordMap → List Item → Type 0
 NodesMade m journal = (id : List ℕ) (kind : Kind) → kind_of (node_of (get m id)) ≡ Some kind → made journal id ≡ Some kind
+
+-- ## What leases tell of it
+
+-- it tells whether the file lives, and a directory that it tells of was made as one
+pub record TellsLife (journal : List Item) (file : List ℕ) (told : Value) : Type 0 where
+  pub life : Option Kind
+  pub is : told ≡ value.Life life
+  pub dir : life ≡ Some Dir → made journal file ≡ Some Dir
+
+-- each lease on the life of a file tells it
+abbrev pub LivesTold : List Item → List Lease → Type 0
+LivesTold journal leases = (l : Lease) → In l leases → (file : List ℕ) → l.field ≡ Life file → TellsLife journal file l.base
 
 -- ## Reserved
 
@@ -100,7 +115,10 @@ AreOne ByLog k = Unit {0}
 -- fresh identifiers are reserved once, and nothing was made at one or below it; nor was anything made, or is anything
 -- reserved, at or below an identifier that a directory has not given yet
 pub record FreshReserved (reserved : Reserved) (m : RecordMap) (journal : List Item) : Type 0 where
-  pub once : (x y : Session) (n k : Claim) (i j : List ℕ) → reserved x n i → reserved y k j → IsAtOrBelow i j → (x ≡ y) × (i ≡ j) × AreOne n k
+  pub once : (x y : Session) (n k : Claim) (i j : List ℕ) → reserved x n i → reserved y k j → IsAtOrBelow i j
+      → (x ≡ y) × (i ≡ j) × AreOne n k
   pub unmade : (x : Session) (n : Claim) (i j : List ℕ) → reserved x n i → IsMade journal j → IsAtOrBelow i j → ⊥
-  pub made_before : (dir : List ℕ) (k : ℕ) (j : List ℕ) → is_directory m dir ≡ true → next_of (get m dir) ≤ k → IsMade journal j → IsAtOrBelow (child dir k) j → ⊥
-  pub reserved_before : (dir : List ℕ) (k : ℕ) (x : Session) (n : Claim) (j : List ℕ) → is_directory m dir ≡ true → next_of (get m dir) ≤ k → reserved x n j → IsAtOrBelow (child dir k) j → ⊥
+  pub made_before : (dir : List ℕ) (k : ℕ) (j : List ℕ) → is_directory m dir ≡ true → next_of (get m dir) ≤ k
+      → IsMade journal j → IsAtOrBelow (child dir k) j → ⊥
+  pub reserved_before : (dir : List ℕ) (k : ℕ) (x : Session) (n : Claim) (j : List ℕ) → is_directory m dir ≡ true → next_of (get m dir) ≤ k
+      → reserved x n j → IsAtOrBelow (child dir k) j → ⊥

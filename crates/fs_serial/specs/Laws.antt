@@ -37,9 +37,11 @@ IsGift dir k s = (is_directory s.records dir ≡ true) × (fresh_number s.record
 -- the session gets it with an exclusive lease on the life of the file
 abbrev pub GiftKeepsParts : Type 0
 GiftKeepsParts =
-    (o : Counts) (skew greatest : ℕ) (a : Asking) (journal : List Item) (replied : Session → List Item) (clients : Session → Settled) (by : Session) (dir : List ℕ) (k : ℕ)
+    (o : Counts) (skew greatest : ℕ) (a : Asking) (journal : List Item) (replied : Session → List Item) (clients : Session → Settled)
+    (by : Session) (dir : List ℕ) (k : ℕ)
     → AllHold skew greatest (sight_of o a.server journal) replied clients → IsGift dir k a.server
-    → AllHold skew greatest (sight_of o (with_fresh by dir k a).server journal) replied (with_client by (with_given by dir k a.server (clients by)) clients)
+    → AllHold skew greatest (sight_of o (with_fresh by dir k a).server journal) replied
+    (with_client by (with_given by dir k a.server (clients by)) clients)
 
 -- whoever relies on what was before can go on
 abbrev pub GiftIsRelied : Type 0
@@ -52,11 +54,13 @@ abbrev pub GiftReturnsNone : Type 0
 GiftReturnsNone =
     (o : Counts) (a : Asking) (journal : List Item) (by : Session) (dir : List ℕ) (k : ℕ) (kept : List ViewLease) (d : Settled)
     → IsGift dir k a.server → ReturnsFit (sight_of o a.server journal).given a.server.rows by kept d.leases
-    → ReturnsFit (sight_of o (with_fresh by dir k a).server journal).given (with_fresh by dir k a).server.rows by kept (with_given by dir k a.server d).leases
+    → ReturnsFit (sight_of o (with_fresh by dir k a).server journal).given (with_fresh by dir k a).server.rows by kept
+    (with_given by dir k a.server d).leases
 
 -- what the session is told with the identifier is the lease that comes with it, behind those that it is given before
 abbrev pub GiftIsTold : Type 0
 GiftIsTold =
     (a : Asking) (by : Session) (dir : List ℕ) (k : ℕ) (d : Settled) (e : End)
     → IsGift dir k a.server → ((g : Grant) → In g a.grants → (r : Row) × In r a.server.rows × (r.field ≡ g.field))
-    → told by (Granted (with_fresh by dir k a).grants (with_fresh by dir k a).fresh e) d ≡ with_given by dir k a.server (told by (Granted a.grants None e) d)
+    → told by (Granted (with_fresh by dir k a).grants (with_fresh by dir k a).fresh e) d
+    ≡ with_given by dir k a.server (told by (Granted a.grants None e) d)

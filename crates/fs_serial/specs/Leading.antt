@@ -5,7 +5,8 @@ use Rattle.fs_ident.specs.Ident.{same}
 use Rattle.fs_ident.specs.In.{In}
 use Rattle.fs_ident.specs.declared.actor.Session.{Session}
 use Rattle.fs_ident.specs.declared.actor.TxnNo.{TxnNo}
-use Rattle.fs_ident.specs.declared.kind.Kind.TheVariants.{File}
+use Rattle.fs_ident.specs.declared.kind.Kind.{Kind}
+use Rattle.fs_ident.specs.declared.kind.Kind.TheVariants.{Dir, File}
 use Rattle.fs_field.specs.After.{changed_file}
 use Rattle.fs_field.specs.declared.effect.Effect.{Effect}
 use Rattle.fs_field.specs.declared.effect.Effect.TheVariants.{SetChild, SetParent, RemoveNode}
@@ -24,6 +25,7 @@ use Rattle.fs_client.specs.Led.{end_fits, lead_of}
 use Rattle.fs_client.specs.declared.exchange.Exchange.TheVariants.{Leads}
 use Rattle.fs_client.specs.declared.led.Led.{Led}
 use Rattle.fs_server.specs.Begins.{parts_in}
+use Rattle.fs_server.specs.Leads.{mode_of}
 use Rattle.fs_server.specs.declared.event.ServerEvent.{ServerEvent}
 use Rattle.fs_server.specs.declared.state.Server.{Server}
 use Rattle.fs_server.specs.Server.{Stepped}
@@ -39,6 +41,7 @@ use Rattle.fs_txn.specs.Stages.Word.{Decide}
 use Rattle.fs_txn.specs.declared.leader.Leader.{Leader}
 use Rattle.fs_txn.specs.declared.leading.Ending.{Ending}
 use Rattle.fs_txn.specs.declared.leading.Leading.{Leading}
+use Rattle.fs_txn.specs.declared.mode.Mode2.{Mode2}
 use Rattle.fs_txn.specs.declared.ready.Ready.{Ready}
 use Rattle.fs_serial.specs.Cluster.{Cluster, Lines, in_flight_from, without_arrived}
 use Rattle.fs_serial.specs.Words.{desks_of, kept_at, key_of, rows_at, said_at, stage_of_key, telling_of}
@@ -50,14 +53,22 @@ pub record IsLedBy (lines : Session → Lines) (by : Session) (server : ℕ) (l 
   pub led : (lines by).client.led ≡ Some l
   pub asked : (lines by).client.exchange ≡ Some (Leads server)
 
+-- a directory comes into another one
+abbrev pub ComesInto : Kind → Op → Type 0
+ComesInto Dir (op.Rename sdir sname ddir dname) = same sdir ddir ≡ false
+ComesInto kind o = ⊥
+
+-- it began in the mode of the operation, or its decision stands on the path of the directory into which another one comes
+abbrev pub IsMode : Mode2 → Kind → Op → Type 0
+IsMode mode kind o = (mode ≡ mode_of o kind) ⊎ ((needs_path mode o ≡ true) × ComesInto kind o)
+
 -- the leader is that of the operation
 pub record IsLeaderOf (l : Leader) (d : Led) : Type 0 where
   pub number : l.n ≡ d.entry.n
   pub op : l.op ≡ d.entry.op
   pub file : l.file ≡ d.file
   pub parts : l.parts ≡ parts_in l.mode (lead_of d)
-  -- its decision stands on no path
-  pub mode : needs_path l.mode l.op ≡ false
+  pub mode : IsMode l.mode d.kind l.op
 
 -- what each part is told where the operation is carried out: its effects on the part's file
 abbrev pub effects_told : Leading → List (List Effect)
@@ -89,7 +100,8 @@ pub record IsLeading (lines : Session → Lines) (s : Server) (parts : Key → W
   pub led : Led
   pub client : IsLedBy lines l.leader.session s.me led
   pub leader : IsLeaderOf l.leader led
-  pub plain : IsPlain led l.leader
+  -- where its decision stands on no path
+  pub plain : needs_path l.leader.mode l.leader.op ≡ false → IsPlain led l.leader
 
 -- ## Decided
 
@@ -126,7 +138,8 @@ pub record HasUse (uses : List Use) (on : Field) (wanted : LeaseKind) : Type 0 w
 abbrev pub IsCoveredBy : List Use → Effect → Type 0
 IsCoveredBy uses (SetChild dir name to) = HasUse uses (Child dir name) Exclusive × HasUse uses (Life dir) Shared
 IsCoveredBy uses (SetParent file dir name) = HasUse uses (Life file) Shared
-IsCoveredBy uses (RemoveNode file) = HasUse uses (Names file) Shared × (HasUse uses (Life file) Exclusive × HasUse uses (Own file) Exclusive)
+IsCoveredBy uses (RemoveNode file) =
+    HasUse uses (Names file) Shared × (HasUse uses (Life file) Exclusive × HasUse uses (Own file) Exclusive)
 IsCoveredBy uses e = ⊥
 
 -- where a file gets its place, its leader keeps the row on that name locked
@@ -155,7 +168,8 @@ pub record LedHolds (c : Cluster) : Type 0 where
   pub files : (a b : Key) → a.txn ≡ b.txn → (a.part == b.part) ≡ false → stage_of_key c.servers a ≢ Unknown
       → stage_of_key c.servers b ≢ Unknown → same (parts a).part.file (parts b).part.file ≡ false
   -- a part at another server is told one effect at most
-  pub few : (key : Key) (at : ℕ) (effects : List Effect) → In (word_to key at (Decide effects)) (telling_of c.in_flight) → length effects ≤ 1
+  pub few : (key : Key) (at : ℕ) (effects : List Effect) → In (word_to key at (Decide effects)) (telling_of c.in_flight)
+      → length effects ≤ 1
   pub told : (key : Key) (at : ℕ) (effects : List Effect) → In (word_to key at (Decide effects)) (telling_of c.in_flight) → (e : Effect)
       → In e effects → IsToldOf c.servers key (parts key) e
 

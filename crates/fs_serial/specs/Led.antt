@@ -17,6 +17,7 @@ use Rattle.fs_client.specs.Led.{is_led, lead_of, moved_known}
 use Rattle.fs_client.specs.declared.led.Led.{Led}
 use Rattle.fs_server.specs.Leads.{parts_in, uses_of}
 use Rattle.fs_txn.specs.declared.mode.Mode2.TheVariants.{Plain}
+use Rattle.fs_serial.specs.Fresh.{made}
 use Rattle.fs_serial.specs.Pending.{AllStand, IsAnswer, UsesBacked, UsesHeld}
 use Rattle.fs_serial.specs.Settled.{Settled}
 use Rattle.fs_serial.specs.Sight.{Sight}
@@ -42,6 +43,8 @@ pub record LedStands (skew greatest : ℕ) (s : Sight) (by : Session) (d : Settl
   pub held : UsesHeld d.leases (l.entry ∷ [])
   pub backed : UsesBacked skew greatest s.rows (l.entry ∷ [])
   pub parts : (u : Use) → In u l.entry.uses → In u (uses_of (parts_in Plain (lead_of l)))
+  -- its home was made as a directory, and lives as one as far as the row of a lease tells
+  pub home : made s.journal (home_of l.entry.op) ≡ Some Dir
   pub lives : HomeLives s.rows s.records by l
   -- it answers what it will get, as far as the rows of its leases stand
   pub right : AllStand s.rows by l.entry.uses → IsLeadAnswer (value_of s.records by) l

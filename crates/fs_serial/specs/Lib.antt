@@ -32,3 +32,4 @@ pub mod EndedLeases
 pub mod Paths
 pub mod PathLaws
 pub mod KeptFiles
+pub mod Whole

@@ -3,7 +3,7 @@ use Rattle.std.specs.Prelude.{ℕ, ◌==◌, List, if◌then◌else◌}
 use Rattle.fs_ident.specs.declared.actor.Session.{Session}
 use Rattle.fs_msg.specs.declared.item.Item.{Item}
 use Rattle.fs_record.specs.ValueOf.{value_of}
-use Rattle.fs_serial.specs.Fresh.{NodesMade, FreshReserved, reserved_by}
+use Rattle.fs_serial.specs.Fresh.{LivesTold, NodesMade, FreshReserved, reserved_by}
 use Rattle.fs_serial.specs.Gone.{IsOfGone}
 use Rattle.fs_serial.specs.Leases.{LeasesBacked, LeasesTrue, LeasesGiven, LeasesDistinct, LeasesMatch, FreshLeases}
 use Rattle.fs_serial.specs.Led.{LedFits}
@@ -47,6 +47,7 @@ pub record SessionFits (skew greatest : ℕ) (s : Sight) (by : Session) (d : Set
   pub distinct : LeasesDistinct d.leases
   pub matching : LeasesMatch s.rows by d.leases
   pub fresh : FreshLeases d.leases
+  pub lives : LivesTold s.journal d.leases
   pub held : UsesHeld d.leases d.log
   pub backed : UsesBacked skew greatest s.rows d.log
   pub entries : AreEntries d.log

@@ -47,7 +47,8 @@ TakenIsTrue =
 -- so it tells which renames would make a cycle: those of a file on it
 abbrev pub TakenTellsCycles : Type 0
 TakenTellsCycles =
-    (c : Cluster) (k : ℕ) (s : Server) (file dir : List ℕ) (path : List (List ℕ)) → PathsStand c → PathsHold c → slice_get c.servers k ≡ Some s
+    (c : Cluster) (k : ℕ) (s : Server) (file dir : List ℕ) (path : List (List ℕ)) → PathsStand c → PathsHold c
+    → slice_get c.servers k ≡ Some s
     → made c.journal dir ≡ Some Dir → has_record s dir ≡ true → path_here s dir ≡ Path path
     → has_file path file ≡ is_on_chain (nodes_of (held_by c)) file dir
 

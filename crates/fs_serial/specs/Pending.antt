@@ -82,7 +82,8 @@ UsesHeld leases log = (e : Entry) → In e log → (u : Use) → In u e.uses →
 
 -- each use has its row, or has ended
 abbrev pub UsesBacked : ℕ → ℕ → List Row → List Entry → Type 0
-UsesBacked skew greatest rows log = (e : Entry) → In e log → (u : Use) → In u e.uses → greatest < u.until + skew → IsBacked rows u.no u.until
+UsesBacked skew greatest rows log =
+    (e : Entry) → In e log → (u : Use) → In u e.uses → greatest < u.until + skew → IsBacked rows u.no u.until
 
 -- ## Entries
 

@@ -14,6 +14,8 @@ use Rattle.fs_msg.specs.declared.peer_msg.PeerMsg.{PeerMsg}
 use Rattle.fs_msg.specs.declared.peer_msg.PeerMsg.TheVariants as peer
 use Rattle.fs_parcel.specs.Parcel.{is_formed, is_of_given}
 use Rattle.fs_record.specs.Moving.{AreEachRecords}
+use Rattle.fs_record.specs.declared.led_end.Why.{Why}
+use Rattle.fs_record.specs.declared.led_end.Why.TheVariants as why
 use Rattle.fs_record.specs.declared.parcel.Parcel.{Parcel}
 use Rattle.fs_server.specs.Server.{is_mine}
 use Rattle.fs_server.specs.declared.state.Server.{Server}
@@ -60,14 +62,15 @@ abbrev pub VoteNames : ℕ → Vote → Type 0
 VoteNames servers (vote.Moved prefix to) = to < servers
 VoteNames servers v = Unit {0}
 
--- no server sends a message of path leases yet
+-- so does the cause for which a path is denied, where the directory is elsewhere
+abbrev pub WhyNames : ℕ → Why → Type 0
+WhyNames servers (why.Moved prefix to) = to < servers
+WhyNames servers w = Unit {0}
+
 abbrev pub MessageNames : ℕ → PeerMsg → Type 0
-MessageNames servers (peer.Parcel p) = Unit {0}
-MessageNames servers (peer.Prepare m) = Unit {0}
 MessageNames servers (peer.Vote m) = VoteNames servers m.vote
-MessageNames servers (peer.Decide m) = Unit {0}
-MessageNames servers (peer.Done m) = Unit {0}
-MessageNames servers m = ⊥
+MessageNames servers (peer.PathNo file w) = WhyNames servers w
+MessageNames servers m = Unit {0}
 
 -- the message goes from one of so many servers to one of them, and names no others
 pub record IsUnderway (servers : ℕ) (f : InFlight) : Type 0 where

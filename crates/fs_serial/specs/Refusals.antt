@@ -34,7 +34,8 @@ pub record IsRefused (rows : List Row) (by : Session) (now : ℕ) (entries : Lis
 
 -- how the answer to these entries ends, where these are all rows at the reading: with a refused one so, and else none is held back
 abbrev pub IsFairEnd : List Row → Session → ℕ → List Entry → ℕ → End → List ℕ → Type 0
-IsFairEnd rows by now entries count (end.Ended n lease until at) gaps = IsRefused rows by now entries count (end.Ended n lease until at) gaps
+IsFairEnd rows by now entries count (end.Ended n lease until at) gaps =
+    IsRefused rows by now entries count (end.Ended n lease until at) gaps
 IsFairEnd rows by now entries count e gaps = gaps ≡ []
 
 abbrev pub IsFairNote : List Row → Session → ℕ → List Entry → ServerNote → Type 0
@@ -48,5 +49,6 @@ rows_in c = rows_of_all c.servers (parcels_of c.in_flight)
 -- what the server notes of the log is fair, with the rows that stand then, at the greater of the reading and its last one
 abbrev pub IsFairStep : ℕ → ℕ → Session → List Entry → Server → Cluster → Type 0
 IsFairStep now k by entries s c =
-    IsFairNote (rows_in (after_step k (FromClient by (Ship entries)) (step s now (FromClient by (Ship entries))) c)) by (max s.last now) entries
+    IsFairNote (rows_in (after_step k (FromClient by (Ship entries)) (step s now (FromClient by (Ship entries))) c)) by
+    (max s.last now) entries
     (step s now (FromClient by (Ship entries))).out.note

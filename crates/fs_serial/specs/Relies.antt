@@ -1,12 +1,13 @@
 -- What a session relies on while the servers change for another.
-use Rattle.std.specs.Prelude.{◌≡◌, ◌⊎◌, ℕ, ◌+◌, ◌<◌, ◌≤◌, List, None}
+use Rattle.std.specs.Prelude.{◌≡◌, ◌⊎◌, ℕ, ◌+◌, ◌<◌, ◌≤◌, List, None, Some}
 use Rattle.std.specs.FinMap.{get}
 use Rattle.fs_ident.specs.In.{In}
 use Rattle.fs_ident.specs.declared.actor.Session.{Session}
+use Rattle.fs_ident.specs.declared.kind.Kind.TheVariants.{Dir}
 use Rattle.fs_field.specs.declared.row.Row.{Row}
 use Rattle.fs_record.specs.Records.{node_of}
 use Rattle.fs_record.specs.ValueOf.{value_of}
-use Rattle.fs_serial.specs.Fresh.{IsMade}
+use Rattle.fs_serial.specs.Fresh.{IsMade, made}
 use Rattle.fs_serial.specs.Gone.{IsOfGone}
 use Rattle.fs_serial.specs.Leases.{IsBacked}
 use Rattle.fs_serial.specs.Numbers.{items_by}
@@ -32,6 +33,7 @@ pub record Relies (skew greatest : ℕ) (by : Session) (s t : Sight) : Type 0 wh
   pub values : (r : Row) → In r t.rows → IsGiven s.given r.no → r.session ≡ by
       → IsOfGone t.records s.journal r.field ⊎ (value_of t.records by r.field ≡ value_of s.records by r.field)
   -- what was made stays made, and once it lives no more it stays gone
+  pub dirs : (file : List ℕ) → made s.journal file ≡ Some Dir → made t.journal file ≡ Some Dir
   pub made : (file : List ℕ) → IsMade s.journal file → IsMade t.journal file
   pub gone : (file : List ℕ) → IsMade s.journal file → node_of (get s.records file) ≡ None → node_of (get t.records file) ≡ None
   -- its own operations in the journal are the same

@@ -43,7 +43,8 @@ greatest_in greatest (e ∷ es) = greatest_in (max greatest e.now) es
 -- each event can happen when it does, and no reading before it is ahead of its own by more than the skew
 abbrev pub IsRun : ℕ → ℕ → List Dated → Cluster → Type 0
 IsRun skew greatest [] c = Unit {0}
-IsRun skew greatest (e ∷ es) c = CanHappen e.what c × (greatest ≤ e.now + skew) × IsRun skew (max greatest e.now) es (after_event e.now e.what c)
+IsRun skew greatest (e ∷ es) c =
+    CanHappen e.what c × (greatest ≤ e.now + skew) × IsRun skew (max greatest e.now) es (after_event e.now e.what c)
 
 -- what was told is in the journal as far as the journal goes, in the same order
 pub record IsFrontOf (front all : List Item) : Type 0 where

@@ -1,9 +1,12 @@
 -- A cluster, while transactions between its servers are on their way, as each of these would see it if it had all rows and records.
-use Rattle.std.specs.Prelude.{◌≡◌, ℕ, false, List, [], slice_get, Option, Some, None}
+use Rattle.std.specs.Prelude.{◌≡◌, ◌<◌, ℕ, false, List, length, slice_get, Option, Some, None}
 use Rattle.fs_ident.specs.In.{In}
 use Rattle.fs_ident.specs.declared.actor.Session.{Session}
 use Rattle.fs_msg.specs.declared.answer.Answer.{Answer}
 use Rattle.fs_msg.specs.declared.client_msg.ClientMsg.{ClientMsg}
+use Rattle.fs_path.specs.Leases.{PathLease}
+use Rattle.fs_path.specs.Tables.{PathTables, lease_of}
+use Rattle.fs_path.specs.declared.having.Having.{Having}
 use Rattle.fs_server.specs.declared.state.Server.{Server}
 use Rattle.fs_serial.specs.Cluster.{Cluster, Lines, parcels_of}
 use Rattle.fs_serial.specs.Decided.{WorldStands}
@@ -48,9 +51,10 @@ pub record IsAddressed (l : Lines) : Type 0 where
   pub up : (m : ℕ × ClientMsg) → In m l.up → asked_server l.client.exchange ≡ Some m.0
   pub down : (m : ℕ × Answer) → In m l.down → is_recall m.1 ≡ false → asked_server l.client.exchange ≡ Some m.0
 
--- the server gave out no path, and has none
-abbrev pub HasNoPaths : Server → Type 0
-HasNoPaths s = (s.paths.issued ≡ []) × (s.paths.held ≡ [])
+-- each path lease that the server gave out went to one of so many servers, and each that it has came from one of them
+abbrev pub HasPeers : ℕ → PathTables → Type 0
+HasPeers servers t =
+    ((l : PathLease) → In l t.issued → l.peer < servers) × ((h : Having) → In h t.held → (lease_of h).peer < servers)
 
 -- all that holds between events, where no reading was greater
 pub record ClusterHolds (skew greatest : ℕ) (c : Cluster) : Type 0 where
@@ -60,5 +64,5 @@ pub record ClusterHolds (skew greatest : ℕ) (c : Cluster) : Type 0 where
   pub places : PlacesHold c
   -- votes, locks, and what is decided
   pub led : LedHolds c
-  -- no server asks for a path yet
-  pub pathless : (s : Server) → In s c.servers → HasNoPaths s
+  -- path leases are between servers that there are
+  pub peers : (s : Server) → In s c.servers → HasPeers (length c.servers) s.paths

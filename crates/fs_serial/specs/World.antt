@@ -91,7 +91,8 @@ pub record AllCarried (skew greatest : ℕ) (s : Sight) (ends : Session → Ends
   pub later : (x : Session) (l : Lease) → In l (settled_now (ends x).client).leases → HasNumber (clients x).leases l.no
 
 -- all that holds while the server takes its steps
-pub record GoesOn (skew greatest : ℕ) (s : Sight) (replied : Session → List Item) (ends : Session → Ends) (clients : Session → Settled) : Type 0 where
+pub record GoesOn (skew greatest : ℕ) (s : Sight) (replied : Session → List Item)
+    (ends : Session → Ends) (clients : Session → Settled) : Type 0 where
   pub all : AllHold skew greatest s replied clients
   pub carried : AllCarried skew greatest s ends clients
 
@@ -101,7 +102,8 @@ pub record WorldHolds (greatest : ℕ) (w : World) : Type 0 where
   pub clock : w.server.last ≤ greatest
   pub clients : (x : Session) → ClientFits x (w.ends x).client
   pub exchanges : (x : Session)
-      → ExchangeFits w.server.skew greatest (sight_in w).given w.server.rows x (w.ends x).client (w.ends x).up (w.ends x).down (settled_now (w.ends x).client) (settled_at x (w.ends x))
+      → ExchangeFits w.server.skew greatest (sight_in w).given w.server.rows x
+      (w.ends x).client (w.ends x).up (w.ends x).down (settled_now (w.ends x).client) (settled_at x (w.ends x))
 
 -- ## The server's events
 
@@ -162,7 +164,9 @@ after_plan by rest p w = record {
   decided = w.decided;
   journal = pushed p.out.admitted w.journal;
   replied = with_told by (told_by by p.ready.change p.out.admitted) w.replied;
-  ends = with_ends by (record { client = committed p.ready (w.ends by).client; up = pushed (message_in p.out.send) (w.ends by).up; down = rest }) w.ends;
+  ends = with_ends by
+      (record { client = committed p.ready (w.ends by).client; up = pushed (message_in p.out.send) (w.ends by).up; down = rest })
+      w.ends;
 }
 
 pub data ClientEvent : Type 0 where
@@ -185,4 +189,5 @@ is_called o = may_ask o
 abbrev pub CanCome : Session → ClientEvent → (Session → Ends) → Type 0
 CanCome by (Does o) ends = is_called o ≡ true
 CanCome by Turns ends = Unit {0}
-CanCome by (Hears from a rest) ends = ((ends by).down ≡ a ∷ rest) × (is_recall a ≡ false → asked_server (ends by).client.exchange ≡ Some from)
+CanCome by (Hears from a rest) ends =
+    ((ends by).down ≡ a ∷ rest) × (is_recall a ≡ false → asked_server (ends by).client.exchange ≡ Some from)

@@ -60,6 +60,7 @@ ghost use Rattle.fs_serial.specs.Seen.{ClusterHolds, with_all};
 ghost use Rattle.fs_serial.specs.Sight.{Counts, Sight, sight_of};
 ghost use Rattle.fs_serial.specs.Refusals.{IsFairStep, rows_in};
 ghost use Rattle.fs_serial.specs.Steps.{AllStand, AreRepliesFrom, HadEnded, IsAdmitted, IsReplied};
+ghost use Rattle.fs_serial.specs.Whole.{ClusterStands};
 ghost use Rattle.fs_serial.specs.World.{settled_at};
 
 /// A fresh identifier that a directory gives to a session, with an exclusive lease on the life of the file. Whoever relied
@@ -161,24 +162,24 @@ pub fn a_parcel_that_comes_leaves_all_as_it_was()
 pub fn the_servers_events_keep_all_parts()
     ensures event { (skew greatest now k : ℕ) (e : ServerEvent) (s : Server) (c : Cluster) →
         slice_get c.servers k ≡ Some s → max s.last now ≤ greatest → IsThere k e c →
-        ClusterHolds skew greatest c → ClusterHolds skew greatest (after_server now k e c) }
+        ClusterStands skew greatest c → ClusterStands skew greatest (after_server now k e c) }
     ensures rises { (skew greatest later : ℕ) (c : Cluster) → greatest ≤ later →
-        ClusterHolds skew greatest c → ClusterHolds skew later c }
+        ClusterStands skew greatest c → ClusterStands skew later c }
 {}
 
 /// Every event of a client keeps all that holds: an operation that its caller asks for, a turn, and an answer that comes. The
 /// clock of a client that answers at once is behind the greatest reading by no more than the skew.
 pub fn the_clients_events_keep_all_parts()
-    ensures { (skew greatest now : ℕ) (c : Cluster) (by : Session) → ClusterHolds skew greatest c →
+    ensures { (skew greatest now : ℕ) (c : Cluster) (by : Session) → ClusterStands skew greatest c →
         (e : ClientEvent) → CanCome by e c → greatest ≤ now + skew →
-        ClusterHolds skew greatest (after_client by now e c) }
+        ClusterStands skew greatest (after_client by now e c) }
 {}
 
-/// Nothing that comes is strange: no answer to a client, and no question or parcel to a server.
+/// Nothing that comes is strange: no answer to a client, and no question, parcel or message of path leases to a server.
 pub fn nothing_that_comes_is_strange()
     ensures server { (skew greatest now k : ℕ) (e : ServerEvent) (s : Server) (c : Cluster) →
         slice_get c.servers k ≡ Some s → max s.last now ≤ greatest → IsThere k e c →
-        ClusterHolds skew greatest c → (step s now e).out.note ≢ server.Strange }
+        ClusterStands skew greatest c → (step s now e).out.note ≢ server.Strange }
     ensures client { (skew greatest now from : ℕ) (a : Answer) (by : Session) (c : Cluster) →
         CanCome by (Hears from a) c → ClusterHolds skew greatest c →
         (answer_plan (c.lines by).client now from a).out.note ≢ client.Strange }
@@ -187,7 +188,7 @@ pub fn nothing_that_comes_is_strange()
 /// At the start, with new servers, no session that has a lease and nothing on its way, all parts hold.
 pub fn the_first_cluster_has_all_parts()
     ensures { (servers skew term greatest : ℕ) → 1 ≤ servers →
-        ClusterHolds skew greatest (first_cluster servers skew term) }
+        ClusterStands skew greatest (first_cluster servers skew term) }
 {}
 
 /// An entry is refused only where a lease that it used has no row, and that lease had ended at the server's reading, as
@@ -224,7 +225,7 @@ pub fn what_is_led_ends_fairly()
         EndsFair (after_client by now e c) }
     ensures first { (servers skew term : ℕ) → EndsFair (first_cluster servers skew term) }
     ensures run { (skew greatest : ℕ) (events : List Dated) (c : Cluster) →
-        ClusterHolds skew greatest c → EndsFair c → IsRun skew greatest events c →
+        ClusterStands skew greatest c → EndsFair c → IsRun skew greatest events c →
         EndsFair (run events c) }
     ensures always { (servers skew term : ℕ) (events : List Dated) → 1 ≤ servers →
         IsRun skew 0 events (first_cluster servers skew term) →
@@ -258,8 +259,8 @@ pub fn a_standing_entry_is_admitted()
 /// and record is with the server that manages its file, or in the parcel that gives it.
 pub fn every_run_keeps_all_parts()
     ensures { (skew greatest : ℕ) (events : List Dated) (c : Cluster) →
-        ClusterHolds skew greatest c → IsRun skew greatest events c →
-        ClusterHolds skew (greatest_in greatest events) (run events c) }
+        ClusterStands skew greatest c → IsRun skew greatest events c →
+        ClusterStands skew (greatest_in greatest events) (run events c) }
 {}
 
 /// Whatever the clocks show, and whatever happens in whatever order: after every event each identifier has one place, each row and

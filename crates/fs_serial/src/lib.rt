@@ -23,7 +23,7 @@ pub use law::{
 };
 pub use locks::a_lock_keeps_the_parts;
 pub use path_law::{
-    a_file_that_is_kept_is_on_no_path, a_path_that_is_taken_is_true, every_run_keeps_files,
-    every_run_keeps_paths, path_leases_keep_paths, paths_rest_on_what_servers_keep,
+    a_file_that_is_kept_is_on_no_path, a_path_that_is_taken_is_true, every_run_keeps_paths,
+    path_leases_keep_paths, paths_rest_on_what_servers_keep,
 };
 pub use space::joined;

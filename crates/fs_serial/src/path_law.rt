@@ -1,50 +1,25 @@
-//! Paths of files that servers hand down to each other, over what all of them hold together. No server asks for a path yet.
-ghost use Rattle.std.specs.Prelude.{◌≡◌, ◌≤◌, ℕ, List, Some, max, slice_get};
-ghost use Rattle.fs_ident.specs.declared.actor.Session.{Session};
-ghost use Rattle.fs_server.specs.declared.event.ServerEvent.{ServerEvent};
-ghost use Rattle.fs_server.specs.declared.state.Server.{Server};
-ghost use Rattle.fs_serial.specs.Cluster.{CanCome, ClientEvent, Cluster, IsThere, after_client, after_server, first_cluster};
+//! Paths of files that servers hand down to each other, over what all of them hold together.
+ghost use Rattle.std.specs.Prelude.{◌≤◌, ℕ, List};
+ghost use Rattle.fs_serial.specs.Cluster.{first_cluster};
 ghost use Rattle.fs_serial.specs.KeptFiles.{FilesKept};
 ghost use Rattle.fs_serial.specs.PathLaws.{AskingBackKeeps, InstallKeepsPaths, KeptIsOnNone, MoveKeepsPaths, NoPathIsStrange, OtherStepsKeep, PathMessageKeeps, TakenIsTrue, TakenTellsCycles, WhatPathsRestOn};
-ghost use Rattle.fs_serial.specs.Paths.{PathsHold};
+ghost use Rattle.fs_serial.specs.Paths.{PathsHold, PathsStand};
 ghost use Rattle.fs_serial.specs.Runs.{Dated, IsRun, run};
-ghost use Rattle.fs_serial.specs.Seen.{ClusterHolds};
 
-/// Whatever happens, in whatever order: every event of a run leaves servers that keep what they have to keep. So a part that said Yes keeps
-/// the file that it names; and what a part is told to do leaves each directory where it is, unless that part keeps it. A delete of a
-/// directory that is led has parts that keep it.
-pub fn every_run_keeps_files()
-    ensures server { (skew greatest now k : ℕ) (e : ServerEvent) (s : Server) (c : Cluster) →
-        slice_get c.servers k ≡ Some s → max s.last now ≤ greatest → IsThere k e c →
-        ClusterHolds skew greatest c → FilesKept c → FilesKept (after_server now k e c) }
-    ensures client { (skew greatest now : ℕ) (c : Cluster) (by : Session) →
-        ClusterHolds skew greatest c → FilesKept c → (e : ClientEvent) → CanCome by e c →
-        FilesKept (after_client by now e c) }
-    ensures first { (servers skew term : ℕ) → FilesKept (first_cluster servers skew term) }
-    ensures run { (skew greatest : ℕ) (events : List Dated) (c : Cluster) →
-        ClusterHolds skew greatest c → FilesKept c → IsRun skew greatest events c →
-        FilesKept (run events c) }
-    ensures always { (servers skew term : ℕ) (events : List Dated) → 1 ≤ servers →
-        IsRun skew 0 events (first_cluster servers skew term) →
-        FilesKept (run events (first_cluster servers skew term)) }
-{}
-
-/// Whatever happens, in whatever order: every event of a run leaves path leases of which all that is said of them holds, each true and in
-/// one place, whichever led operation begins, waits, is decided or is applied. (That no server asks for a path yet is not used, but for
-/// what `ClusterHolds` says of it.)
+/// Whatever happens, in whatever order: in every cluster that a run reaches all that is said of paths holds, and what they rest on. So each
+/// path that a server takes is true. And servers keep the files that they have to keep: a part that said Yes keeps the file that it names;
+/// what a part is told to do leaves each directory where it is, unless that part keeps it; and a delete of a directory that is led has
+/// parts that keep it.
 pub fn every_run_keeps_paths()
-    ensures server { (skew greatest now k : ℕ) (e : ServerEvent) (s : Server) (c : Cluster) →
-        slice_get c.servers k ≡ Some s → max s.last now ≤ greatest → IsThere k e c →
-        ClusterHolds skew greatest c → FilesKept c → PathsHold c →
-        PathsHold (after_server now k e c) }
-    ensures client { (by : Session) (now : ℕ) (e : ClientEvent) (c : Cluster) → PathsHold c →
-        PathsHold (after_client by now e c) }
-    ensures run { (skew greatest : ℕ) (events : List Dated) (c : Cluster) →
-        ClusterHolds skew greatest c → FilesKept c → PathsHold c →
-        IsRun skew greatest events c → PathsHold (run events c) }
-    ensures always { (servers skew term : ℕ) (events : List Dated) → 1 ≤ servers →
+    ensures paths { (servers skew term : ℕ) (events : List Dated) → 1 ≤ servers →
         IsRun skew 0 events (first_cluster servers skew term) →
         PathsHold (run events (first_cluster servers skew term)) }
+    ensures rests { (servers skew term : ℕ) (events : List Dated) → 1 ≤ servers →
+        IsRun skew 0 events (first_cluster servers skew term) →
+        PathsStand (run events (first_cluster servers skew term)) }
+    ensures files { (servers skew term : ℕ) (events : List Dated) → 1 ≤ servers →
+        IsRun skew 0 events (first_cluster servers skew term) →
+        FilesKept (run events (first_cluster servers skew term)) }
 {}
 
 /// Where all parts hold, and each server keeps the files that transactions have it keep, what paths rest on holds: directories are in

@@ -1,9 +1,10 @@
 -- A transaction begins.
 use Rattle.std.proofs.Common.{◌≡◌, ◌+◌, ℕ, Bool, true, false, List, [], ◌∷◌, cond, length, refl, ap, sym, ◌∙◌, subst, arith, length-append}
-use Rattle.std.specs.Prelude.{Some, None}
+use Rattle.std.specs.Prelude.{Option, Some, None}
 use Rattle.fs_ident.specs.declared.actor.Session.{Session}
 use Rattle.fs_ident.specs.declared.actor.TxnNo.{TxnNo}
 use Rattle.fs_field.specs.declared.used.Part.{Part}
+use Rattle.fs_field.specs.declared.path.PathAnswer.{PathAnswer}
 use Rattle.fs_map.specs.Map.{server_of}
 use Rattle.fs_msg.specs.declared.core_error.Counter.TheVariants.{Transactions}
 use Rattle.fs_msg.specs.declared.lead.Lead.{Lead}
@@ -15,7 +16,7 @@ use Rattle.fs_txn.specs.declared.leading.Leading.{Leading}
 use Rattle.fs_txn.specs.declared.mode.Mode2.{Mode2}
 use Rattle.fs_server.specs.Begins.{Round, asked_part, begins, begun_with, first_round, leader_with}
 use Rattle.fs_server.specs.Begins.{own_part, part_round, parts_in, round_of, rounds, txn_of}
-use Rattle.fs_server.specs.Concludes.{concludes, goes_on, waits}
+use Rattle.fs_server.specs.Concludes.{concludes, goes_on, path_for, waits}
 use Rattle.fs_server.specs.Follows.{vote_here}
 use Rattle.fs_server.specs.Gathered.{CanGoOn, gathered_by, keeping}
 use Rattle.fs_server.specs.Grants.{IsReady}
@@ -53,11 +54,11 @@ all_places txn number by (p ∷ ps) r =
 module _ (mode : Mode2) (by : Session) (m : Lead) (s : Server) (txn : TxnNo) (g : Gathered) (l : Leading)
     (next : next_txn s.me s.txns ≡ Some txn) (gathered : gathered_by g txn s ≡ rounds txn 0 by (parts_in mode m) (first_round s))
     (its : l.leader ≡ leader_with mode txn by m g.votes) (at : l.at ≡ g.at) where
-  pub begun_so : goes_on (note.Prepares txn) l g.send (keeping true l.leader.txn g.uses g.files s) ≡ begins mode by m s
+  pub begun_so : goes_on (note.Prepares txn) l (path_for l.leader.mode l.leader.op s) g.send (keeping true l.leader.txn g.uses g.files s) ≡ begins mode by m s
   begun_so =
-      (λ i. goes_on (note.Prepares txn) (record { leader = its i; at = at i }) g.send (keeping true (its i).txn g.uses g.files s))
-      ∙ ap (begun_with mode by m txn) gathered
-      ∙ ap (λ t. begun_with mode by m t (rounds t 0 by (parts_in mode m) (first_round s))) (is_next s txn next)
+      (λ i. goes_on (note.Prepares txn) (record { leader = its i; at = at i }) (path_for (its i).mode (its i).op s) g.send (keeping true (its i).txn g.uses g.files s))
+      ∙ ap (λ (r : Round). begun_with mode by m txn r (path_for mode m.op s)) gathered
+      ∙ ap (λ t. begun_with mode by m t (rounds t 0 by (parts_in mode m) (first_round s)) (path_for mode m.op s)) (is_next s txn next)
 
   whole_so : IsWholeLeader (record { leader = leader_with mode txn by m g.votes; at = g.at }) m.uses
   whole_so =
@@ -87,10 +88,11 @@ counter_kept txn number by (p ∷ ps) r = counter_kept txn (number + 1) by ps (p
     at true = refl
     at false = refl
 
-counter_same : (mode : Mode2) (by : Session) (m : Lead) (txn : TxnNo) (r : Round) → counter_over (begun_with mode by m txn r).server ≡ counter_over r.server
-counter_same mode by m txn r = at (is_full r.votes)
+counter_same : (mode : Mode2) (by : Session) (m : Lead) (txn : TxnNo) (r : Round) (path : Option PathAnswer)
+    → counter_over (begun_with mode by m txn r path).server ≡ counter_over r.server
+counter_same mode by m txn r path = at (is_full r.votes)
   where
-    at : (b : Bool) → counter_over (cond b (concludes (record { leader = leader_with mode txn by m r.votes; at = r.at }) r.send r.server)
+    at : (b : Bool) → counter_over (cond b (concludes (record { leader = leader_with mode txn by m r.votes; at = r.at }) path r.send r.server)
         (waits (note.Prepares txn) (record { leader = leader_with mode txn by m r.votes; at = r.at }) r.send r.server)).server
         ≡ counter_over r.server
     at true = refl
@@ -99,6 +101,6 @@ counter_same mode by m txn r = at (is_full r.votes)
 pub begun_spent : (mode : Mode2) (by : Session) (m : Lead) (s : Server) → IsReady s → next_txn s.me s.txns ≡ None
     → counter_over (begins mode by m s).server ≡ Some Transactions
 begun_spent mode by m s r h =
-    counter_same mode by m (txn_of s) (round_of mode by m s)
+    counter_same mode by m (txn_of s) (round_of mode by m s) (path_for mode m.op s)
     ∙ counter_kept (txn_of s) 0 by (parts_in mode m) (first_round s)
     ∙ txns_over s.given s.reaps s.txns _ r.server.given r.server.reaps (spent_at s h)

@@ -1,22 +1,21 @@
 -- A transaction that the server leads goes on, waits, or is decided.
-use Rattle.std.proofs.Common.{◌≡◌, ◌+◌, ◌<◌, ◌^◌, ℕ, Bool, true, false, not, List, [], ◌∷◌, ◌++◌, refl, ap, ap₂, sym, ◌∙◌, subst, cond}
-use Rattle.std.specs.Prelude.{Option, Some, None}
-use Rattle.std.specs.List.{filter}
-use Rattle.fs_ident.specs.In.{In}
+use Rattle.std.proofs.Common.{◌≡◌, ◌+◌, ◌<◌, ◌≤◌, ◌^◌, ℕ, Bool, true, false, not, List, [], ◌∷◌, ◌++◌, length, length-append, arith, refl, ap, ap₂, sym, ◌∙◌, subst, cond}
+use Rattle.std.specs.Prelude.{Option}
+use Rattle.std.specs.List.{filter, list_any}
+use Rattle.std.proofs.lemmas.List.{length-map}
+use Rattle.fs_ident.specs.Ident.{same}
 use Rattle.fs_ident.specs.declared.actor.Peer.{Peer}
 use Rattle.fs_ident.specs.declared.actor.TxnNo.{TxnNo}
 use Rattle.fs_ident.proofs.Standing.{In-filter, In-more}
 use Rattle.fs_field.specs.Table.{same_txn, unlocked_row}
 use Rattle.fs_field.specs.declared.effect.Effect.{Effect}
 use Rattle.fs_field.specs.declared.row.Row.{Row}
-use Rattle.fs_field.specs.declared.used.Part.{Part}
 use Rattle.fs_field.specs.declared.used.Use.{Use}
-use Rattle.fs_field.specs.declared.vote.Vote.{Vote}
-use Rattle.fs_field.specs.declared.vote.Vote.TheVariants.{Yes, Ended, Moved, PathsOut}
 use Rattle.fs_field.proofs.Leases.{unlocked_same}
+use Rattle.fs_field.specs.declared.path.PathAnswer.{PathAnswer}
+use Rattle.fs_model.specs.Asking.{home_of}
 use Rattle.fs_msg.specs.declared.msg.Msg.{Msg}
 use Rattle.fs_msg.specs.declared.server_note.ServerNote.{ServerNote}
-use Rattle.fs_msg.specs.declared.server_note.ServerNote.TheVariants as note
 use Rattle.fs_record.specs.Applied.{is_undoable, takes_away}
 use Rattle.fs_record.specs.Records.{RecordMap}
 use Rattle.fs_rows.specs.Given.{AreGiven}
@@ -24,22 +23,22 @@ use Rattle.fs_rows.proofs.Numbers.{given_map}
 use Rattle.fs_txn.specs.Deciding.{decision}
 use Rattle.fs_txn.specs.Leading.{AreWhole, IsWholeLeader, elsewhere, own_effects, with_leading, without_leading}
 use Rattle.fs_txn.specs.Locks.{rows_unlocked}
+use Rattle.fs_txn.specs.Parts.{led_files, part_at, source_of, with_file}
 use Rattle.fs_txn.specs.Preparing.{row_locked, rows_locked}
 use Rattle.fs_txn.specs.Votes.{is_full}
 use Rattle.fs_txn.specs.declared.decision.Decision.{Decision}
 use Rattle.fs_txn.specs.declared.leading.Ending.{Ending}
 use Rattle.fs_txn.specs.declared.leading.Leading.{Leading}
-use Rattle.fs_txn.proofs.Locking.{none_locked, used_same}
+use Rattle.fs_txn.proofs.Locking.{used_same}
 use Rattle.fs_server.specs.Concludes.{concludes, end_of_decision, goes_on, keeps_for, waits}
 use Rattle.fs_server.specs.Decided.{CanDecide, stepped_by}
 use Rattle.fs_server.specs.Gathered.{CanGoOn, IsWhole, ends_by, keeping, told_by, waits_by}
 use Rattle.fs_server.specs.Grants.{IsReady}
-use Rattle.fs_server.specs.Plan.{CanChange, CanEnd, changed, changed_then}
+use Rattle.fs_server.specs.Plan.{CanChange, changed, changed_then}
 use Rattle.fs_server.specs.Rows.{AreRows}
 use Rattle.fs_server.specs.Server.{Stepped}
 use Rattle.fs_server.specs.declared.change.Change.{Change}
 use Rattle.fs_server.specs.declared.change.Change.TheVariants as change
-use Rattle.fs_server.specs.declared.change.Then.{Then}
 use Rattle.fs_server.specs.declared.change.Then.TheVariants as rest
 use Rattle.fs_server.specs.declared.decide.Decided.{Decided}
 use Rattle.fs_server.specs.declared.out.ServerOut.{ServerOut}
@@ -47,6 +46,24 @@ use Rattle.fs_server.specs.declared.state.Server.{Server}
 use Rattle.fs_server.proofs.Effects.{all_filtered}
 use Rattle.fs_server.proofs.Kept.{leased_rows, with_tables}
 use Rattle.fs_server.proofs.Owned.{own_order}
+
+-- ## How many vote
+
+one_more : (file : List ℕ) (files : List (List ℕ)) → length (with_file file files) ≤ length files + 1
+one_more file files =
+    elim (list_any (λ f. same f file) files) as (λ (b : Bool). length (cond b files (files ++ file ∷ [])) ≤ length files + 1) [
+      | true ↦ omega arith
+      | false ↦ let more = length-append files (file ∷ []) in omega (arith, more)
+    ]
+
+-- there are three parts at most
+pub few_votes : (l : Leading) (uses : List Use) → IsWholeLeader l uses → length l.leader.votes < 2 ^ 8
+few_votes l uses w =
+    let o = l.leader.op in
+    let first = one_more (source_of o) (home_of o ∷ []) in
+    let second = one_more l.leader.file (with_file (source_of o) (home_of o ∷ [])) in
+    let all = w.votes ∙ ap length w.parts ∙ length-map (led_files o l.leader.file) (part_at l.leader.mode o l.leader.file uses) in
+    omega (arith, first, second, all)
 
 -- ## What it keeps
 
@@ -131,17 +148,17 @@ abbrev stepped : Server → ServerOut → Stepped
 stepped t o = record { server = t; out = o }
 
 pub concludes_so : (begins : Bool) (l : Leading) (uses : List Use) (files : List (List ℕ)) (send : List (Peer × Msg)) (s : Server) (d : Decided)
-    (w : Decision) (others : List (ℕ × ℕ)) → CanGoOn begins l s → w ≡ decision l.leader None → others ≡ elsewhere s.me l
+    (w : Decision) (others : List (ℕ × ℕ)) (path : Option PathAnswer) → CanGoOn begins l s → w ≡ decision l.leader path → others ≡ elsewhere s.me l
     → d.change ≡ change.Lead begins l.leader.txn uses files (ends_by s.me l w others) → d.out ≡ told_by w others l.leader send
-    → stepped_by d s ≡ concludes l send (keeping begins l.leader.txn uses files s)
-concludes_so begins l uses files send s d w others can is_decision is_elsewhere ch out =
+    → stepped_by d s ≡ concludes l path send (keeping begins l.leader.txn uses files s)
+concludes_so begins l uses files send s d w others path can is_decision is_elsewhere ch out =
     let k : Server = keeping begins l.leader.txn uses files s in
-    let e : Decision = decision l.leader None in
+    let e : Decision = decision l.leader path in
     let all : ServerOut → Change → Stepped = λ o c. stepped (changed c s) o in
     ap₂ all out ch
     ∙ ap₂ (λ (v : Decision) (ys : List (ℕ × ℕ)). all (told_by v ys l.leader send) (change.Lead begins l.leader.txn uses files (ends_by s.me l v ys))) is_decision is_elsewhere
-    ∙ ap (λ (records : RecordMap). stepped (record ((concludes l send k).server) { records = records }) ((concludes l send k).out))
-    (own_order s.records s.me l can.uses None can.whole)
+    ∙ ap (λ (records : RecordMap). stepped (record ((concludes l path send k).server) { records = records }) ((concludes l path send k).out))
+    (own_order s.records s.me l can.uses path can.whole)
 
 pub concludes_can : (begins : Bool) (l : Leading) (uses : List Use) (files : List (List ℕ)) (s : Server) (d : Decided) (w : Decision)
     (others : List (ℕ × ℕ)) → IsReady s → CanGoOn begins l s → d.change ≡ change.Lead begins l.leader.txn uses files (ends_by s.me l w others)
@@ -170,8 +187,10 @@ waits_can begins n l uses files send s d r w few h = subst (λ (x : Decided). Ca
 
 -- ## It goes on
 
-pub goes_full : (n : ServerNote) (l : Leading) (send : List (Peer × Msg)) (s : Server) → is_full l.leader.votes ≡ true → concludes l send s ≡ goes_on n l send s
-goes_full n l send s h = sym (ap (λ b. cond b (concludes l send s) (waits n l send s)) h)
+pub goes_full : (n : ServerNote) (l : Leading) (path : Option PathAnswer) (send : List (Peer × Msg)) (s : Server) → is_full l.leader.votes ≡ true
+    → concludes l path send s ≡ goes_on n l path send s
+goes_full n l path send s h = sym (ap (λ b. cond b (concludes l path send s) (waits n l send s)) h)
 
-pub goes_waiting : (n : ServerNote) (l : Leading) (send : List (Peer × Msg)) (s : Server) → is_full l.leader.votes ≡ false → waits n l send s ≡ goes_on n l send s
-goes_waiting n l send s h = sym (ap (λ b. cond b (concludes l send s) (waits n l send s)) h)
+pub goes_waiting : (n : ServerNote) (l : Leading) (path : Option PathAnswer) (send : List (Peer × Msg)) (s : Server) → is_full l.leader.votes ≡ false
+    → waits n l send s ≡ goes_on n l path send s
+goes_waiting n l path send s h = sym (ap (λ b. cond b (concludes l path send s) (waits n l send s)) h)

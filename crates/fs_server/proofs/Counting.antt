@@ -1,6 +1,6 @@
 -- Votes on parts of transactions that the server leads, and what is done of them.
-use Rattle.std.proofs.Common.{◌≡◌, ◌==◌, ◌+◌, ◌<◌, ◌^◌, ℕ, Bool, true, false, List, [], ◌∷◌, ◌++◌, length, refl, ap, ap₂, sym, ◌∙◌, subst, cond}
-use Rattle.std.specs.Prelude.{Option, Some, None, slice_get, slice_set}
+use Rattle.std.proofs.Common.{◌≡◌, ◌==◌, ℕ, Bool, true, false, List, [], ◌∷◌, length, refl, ap, ap₂, sym, ◌∙◌, subst, cond}
+use Rattle.std.specs.Prelude.{Option, Some, None, slice_get}
 use Rattle.std.proofs.lemmas.Bool.{eqb-true}
 use Rattle.std.proofs.lemmas.List.{length-set}
 use Rattle.fs_ident.specs.declared.actor.Peer.{Peer}
@@ -13,6 +13,7 @@ use Rattle.fs_field.specs.declared.used.Use.{Use}
 use Rattle.fs_field.specs.declared.vote.Vote.{Vote}
 use Rattle.fs_field.specs.declared.vote.Vote.TheVariants.{Yes, Ended, Moved, PathsOut}
 use Rattle.fs_field.proofs.Leases.{unlocked_same}
+use Rattle.fs_field.specs.declared.path.PathAnswer.{PathAnswer}
 use Rattle.fs_msg.specs.declared.msg.Msg.{Msg}
 use Rattle.fs_msg.specs.declared.server_note.ServerNote.{ServerNote}
 use Rattle.fs_msg.specs.declared.server_note.ServerNote.TheVariants as note
@@ -21,12 +22,12 @@ use Rattle.fs_rows.proofs.Numbers.{given_map}
 use Rattle.fs_msg.specs.declared.done.Done.{Done}
 use Rattle.fs_txn.specs.Leading.{awaits_done, ending_of, leading_of, with_ending, without_done}
 use Rattle.fs_txn.specs.Locks.{rows_unlocked}
-use Rattle.fs_txn.specs.Preparing.{rows_locked, rows_voted}
+use Rattle.fs_txn.specs.Preparing.{rows_locked}
 use Rattle.fs_txn.specs.Votes.{Votes, votes_after}
 use Rattle.fs_txn.specs.declared.leading.Ending.{Ending}
 use Rattle.fs_txn.specs.declared.leading.Leading.{Leading}
 use Rattle.fs_txn.proofs.Locking.{none_locked}
-use Rattle.fs_server.specs.Concludes.{goes_on, waits}
+use Rattle.fs_server.specs.Concludes.{goes_on, path_for, waits}
 use Rattle.fs_server.specs.Counts.{after_own_vote, ask_for, asked_at, comes_home, counts, counts_own, done_of, done_with, seeks, sent_on, with_vote}
 use Rattle.fs_server.specs.Decided.{CanDecide, stepped_by}
 use Rattle.fs_server.specs.Follows.{paths_kept, recalls_for, to_server}
@@ -102,23 +103,28 @@ own_on number vote l x s w h = goes_more x s (subst IsWhole (sym h) (asked_whole
 -- ## A vote
 
 -- it goes on, and keeps these rows and files
-pub goes_so : (n : ServerNote) (l x : Leading) (uses : List Use) (files : List (List ℕ)) (send told : List (Peer × Msg)) (s t : Server) → x ≡ l
+pub goes_so : (n : ServerNote) (l x : Leading) (path : Option PathAnswer) (uses : List Use) (files : List (List ℕ)) (send told : List (Peer × Msg)) (s t : Server) → x ≡ l
     → send ≡ told → keeping false l.leader.txn uses files s ≡ t
-    → goes_on n x send (keeping false x.leader.txn uses files s) ≡ goes_on n l told t
-goes_so n l x uses files send told s t h e k =
-    ap (λ (z : Leading). goes_on n z send (keeping false z.leader.txn uses files s)) h ∙ ap₂ (λ (ms : List (Peer × Msg)) (u : Server). goes_on n l ms u) e k
+    → goes_on n x path send (keeping false x.leader.txn uses files s) ≡ goes_on n l path told t
+goes_so n l x path uses files send told s t h e k =
+    ap (λ (z : Leading). goes_on n z path send (keeping false z.leader.txn uses files s)) h ∙ ap₂ (λ (ms : List (Peer × Msg)) (u : Server). goes_on n l path ms u) e k
 
 pub counts_so : (number : ℕ) (vote : Vote) (l x : Leading) (uses : List Use) (files : List (List ℕ)) (send : List (Peer × Msg)) (s : Server)
     → x ≡ with_vote number vote l → uses ≡ [] → files ≡ [] → send ≡ []
-    → goes_on (note.Waits l.leader.txn) x send (keeping false x.leader.txn uses files s) ≡ counts number vote l s
-counts_so number vote l x uses files send s h u f e = goes_so (note.Waits l.leader.txn) (with_vote number vote l) x uses files send [] s s h e
+    → goes_on (note.Waits l.leader.txn) x (path_for x.leader.mode x.leader.op s) send (keeping false x.leader.txn uses files s) ≡ counts number vote l s
+counts_so number vote l x uses files send s h u f e =
+    ap (λ (z : Leading). goes_on (note.Waits l.leader.txn) x (path_for z.leader.mode z.leader.op s) send (keeping false x.leader.txn uses files s)) h
+    ∙ goes_so (note.Waits l.leader.txn) (with_vote number vote l) x (path_for l.leader.mode l.leader.op s) uses files send [] s s h e
     (ap₂ (λ (us : List Use) (fs : List (List ℕ)). keeping false l.leader.txn us fs s) u f ∙ keeps_none l.leader.txn s)
 
 pub own_so : (number : ℕ) (p : Part) (vote : Vote) (l x : Leading) (uses : List Use) (files : List (List ℕ)) (send : List (Peer × Msg)) (s : Server)
     → x ≡ asked_at number s.me (with_vote number vote l) → uses ≡ uses_voted vote p.uses → files ≡ files_voted vote p.freeze → send ≡ recalls_for vote s p
-    → goes_on (note.Waits l.leader.txn) x send (keeping false x.leader.txn uses files s) ≡ counts_own number p vote l s
+    → goes_on (note.Waits l.leader.txn) x (path_for x.leader.mode x.leader.op s) send (keeping false x.leader.txn uses files s)
+    ≡ counts_own number p vote l s
 own_so number p vote l x uses files send s h u f e =
-    goes_so (note.Waits l.leader.txn) (asked_at number s.me (with_vote number vote l)) x uses files send (recalls_for vote s p) s
+    ap (λ (z : Leading). goes_on (note.Waits l.leader.txn) x (path_for z.leader.mode z.leader.op s) send (keeping false x.leader.txn uses files s)) h
+    ∙ goes_so (note.Waits l.leader.txn) (asked_at number s.me (with_vote number vote l)) x (path_for l.leader.mode l.leader.op s) uses files send
+    (recalls_for vote s p) s
     (after_own_vote l.leader.txn p vote s) h e
     (ap₂ (λ (us : List Use) (fs : List (List ℕ)). keeping false l.leader.txn us fs s) u f ∙ keeps_voted vote l.leader.txn p s)
 

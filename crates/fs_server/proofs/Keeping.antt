@@ -18,6 +18,7 @@ use Rattle.fs_txn.specs.Votes.{is_full}
 use Rattle.fs_txn.specs.declared.leading.Leading.{Leading}
 use Rattle.fs_txn.specs.declared.mode.Mode2.{Mode2}
 use Rattle.fs_server.specs.Begins.{Round, asked_part, begins, first_round, leader_with, own_part, part_round, parts_in, round_of, rounds, txn_of}
+use Rattle.fs_server.specs.Concludes.{path_for}
 use Rattle.fs_server.specs.Counts.{after_own_vote, asked_at, counts_own, paths_voted, with_vote}
 use Rattle.fs_server.specs.Follows.{paths_kept, recalls_for, vote_here}
 use Rattle.fs_server.specs.Gathered.{files_voted, uses_voted}
@@ -118,7 +119,7 @@ pub begun_keeps : (mode : Mode2) (by : Session) (m : Lead) (s : Server) (p : Par
 begun_keeps mode by m s p file i mine v f waiting =
     let r : Round = round_of mode by m s in
     let l : Leading = record { leader = leader_with mode (txn_of s) by m r.votes; at = r.at } in
-    subst (λ (x : Stepped). In (file, txn_of s) x.server.paths.frozen) (goes_waiting (note.Prepares (txn_of s)) l r.send r.server waiting)
+    subst (λ (x : Stepped). In (file, txn_of s) x.server.paths.frozen) (goes_waiting (note.Prepares (txn_of s)) l (path_for mode m.op s) r.send r.server waiting)
     (rounds_keep (txn_of s) 0 by (parts_in mode m) (first_round s) p file i mine
     (ap (λ (x : Round). vote_here x.server by p) (sym (first_gathered (txn_of s) s)) ∙ vote_kept true (txn_of s) [] [] s by p ∙ v) f)
 
@@ -126,6 +127,6 @@ pub counted_keeps : (number : ℕ) (p : Part) (file : List ℕ) (l : Leading) (s
     → is_full (with_vote number Yes l).leader.votes ≡ false → In (file, l.leader.txn) (counts_own number p Yes l s).server.paths.frozen
 counted_keeps number p file l s f waiting =
     subst (λ (x : Stepped). In (file, l.leader.txn) x.server.paths.frozen)
-    (goes_waiting (note.Waits l.leader.txn) (with_vote number Yes (asked_at number s.me l)) (recalls_for Yes s p)
+    (goes_waiting (note.Waits l.leader.txn) (with_vote number Yes (asked_at number s.me l)) (path_for l.leader.mode l.leader.op s) (recalls_for Yes s p)
     (after_own_vote l.leader.txn p Yes s) waiting)
     (named_kept l.leader.txn p.freeze file s.paths f)

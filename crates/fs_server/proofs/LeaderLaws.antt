@@ -13,12 +13,13 @@ use Rattle.fs_ident.specs.declared.actor.TxnNo.{TxnNo}
 use Rattle.fs_ident.proofs.Passing.{found}
 use Rattle.fs_field.specs.Table.{is_lock_of, same_txn}
 use Rattle.fs_field.specs.declared.effect.Effect.{Effect}
+use Rattle.fs_field.specs.declared.path.PathAnswer.{PathAnswer}
 use Rattle.fs_field.specs.declared.row.Row.{Row}
 use Rattle.fs_field.specs.declared.used.Part.{Part}
 use Rattle.fs_field.specs.declared.vote.Vote.{Vote}
 use Rattle.fs_field.specs.declared.vote.Vote.TheVariants.{Yes, Ended, Moved, PathsOut}
 use Rattle.fs_map.specs.Map.{server_of}
-use Rattle.fs_model.specs.declared.reply.Reply.TheVariants.{Renamed}
+use Rattle.fs_model.specs.declared.reply.Reply.TheVariants.{Cycle, Renamed}
 use Rattle.fs_msg.specs.declared.answer.Answer.TheVariants as answer
 use Rattle.fs_msg.specs.declared.done.Done.{Done}
 use Rattle.fs_msg.specs.declared.lead.Lead.{Lead}
@@ -39,17 +40,17 @@ use Rattle.fs_txn.specs.declared.leading.Ending.{Ending}
 use Rattle.fs_txn.specs.declared.leading.Leading.{Leading}
 use Rattle.fs_txn.proofs.Keys.{txn_is}
 use Rattle.fs_server.specs.Begins.{Round, asked_part, first_round, leader_with, own_part, part_round, parts_in, round_of, rounds, txn_of}
-use Rattle.fs_server.specs.Concludes.{admitted_of, concludes, end_of_decision, ends_now, goes_on, tells, waits}
+use Rattle.fs_server.specs.Concludes.{admitted_of, concludes, end_of_decision, ends_now, goes_on, path_for, tells, waits}
 use Rattle.fs_server.specs.Counts.{after_own_vote, asked_at, comes_home, counts, counts_own, done_of, done_step, done_with, seeks, sent_on}
 use Rattle.fs_server.specs.Counts.{vote_of, vote_step, voted, with_vote}
 use Rattle.fs_server.specs.Follows.{recalls_for, to_server, vote_here}
 use Rattle.fs_server.specs.LeadingLaws.{awaits_this, awaits_vote, of_number}
-use Rattle.fs_server.specs.Leads.{lead_step, mode_of}
+use Rattle.fs_server.specs.Leads.{lead_step}
 use Rattle.fs_server.specs.Server.{Stepped, is_mine, strange, to_session}
 use Rattle.fs_server.specs.declared.state.Server.{Server}
 use Rattle.fs_server.proofs.Following.{none_kept}
-use Rattle.fs_server.proofs.Leading.{LeadEnds, begun, lead_ends, put_off, unled}
-use Rattle.fs_server.proofs.Splitting.{passes}
+use Rattle.fs_server.proofs.Leading.{LeadEnds, begun, kept, lead_ends, put_off, unled, wanted}
+use Rattle.fs_server.proofs.Splitting.{cycle_changes_none, passes}
 
 -- ## What nobody awaits
 
@@ -77,10 +78,10 @@ done_so m s x left f a e =
     ∙ ap (λ b. cond b (done_with (without_done m.number x) (without_done m.number x).awaits s) (strange s)) a
     ∙ ap (λ xs. done_with (without_done m.number x) xs s) e
 
-pub rename_commits : (l : Leading) (sent : List (Peer × Msg)) (s : Server) (effects : List (List Effect))
-    → decision l.leader None ≡ Commit Renamed effects
-    → is_some (slice_get (elsewhere s.me l) 0) ≡ true → (concludes l sent s).server.rows ≡ s.rows
-rename_commits l sent s effects d o = ap₂ (λ d b. cond (keeps_rows d && b) s.rows (rows_unlocked l.leader.txn s.rows)) d o
+pub rename_commits : (l : Leading) (path : Option PathAnswer) (sent : List (Peer × Msg)) (s : Server) (effects : List (List Effect))
+    → decision l.leader path ≡ Commit Renamed effects
+    → is_some (slice_get (elsewhere s.me l) 0) ≡ true → (concludes l path sent s).server.rows ≡ s.rows
+rename_commits l path sent s effects d o = ap₂ (λ d b. cond (keeps_rows d && b) s.rows (rows_unlocked l.leader.txn s.rows)) d o
 
 pub rename_waits : (m : Done) (s : Server) (x : Ending) (y : ℕ × ℕ) (ys : List (ℕ × ℕ)) → ending_of m.txn s.ending ≡ Some x
     → awaits_done m.number x.awaits ≡ true
@@ -100,28 +101,28 @@ last_is_done m s x f a e r i =
 
 -- ## Files that are kept
 
-pub decision_frees : (l : Leading) (sent : List (Peer × Msg)) (s : Server) (x : List ℕ × TxnNo) → In x (concludes l sent s).server.paths.frozen
-    → same_txn x.1 l.leader.txn ≡ false
-decision_frees l sent s x i = not-true (same_txn x.1 l.leader.txn) (passes (λ y. not (same_txn y.1 l.leader.txn)) x s.paths.frozen i)
+pub decision_frees : (l : Leading) (path : Option PathAnswer) (sent : List (Peer × Msg)) (s : Server) (x : List ℕ × TxnNo)
+    → In x (concludes l path sent s).server.paths.frozen → same_txn x.1 l.leader.txn ≡ false
+decision_frees l path sent s x i = not-true (same_txn x.1 l.leader.txn) (passes (λ y. not (same_txn y.1 l.leader.txn)) x s.paths.frozen i)
 
 -- ## What the session is told
 
-pub told_at_once : (l : Leading) (sent : List (Peer × Msg)) (s : Server) → elsewhere s.me l ≡ []
-    → (concludes l sent s).out.send ≡ sent ++ to_session l.leader.session (answer.Led (end_of_decision (decision l.leader None))) ∷ []
-told_at_once l sent s h =
-    ap (λ out. sent ++ (tells l.leader.txn (decision l.leader None) out ++ ends_now out l.leader.session
-    (end_of_decision (decision l.leader None)))) h
+pub told_at_once : (l : Leading) (path : Option PathAnswer) (sent : List (Peer × Msg)) (s : Server) → elsewhere s.me l ≡ []
+    → (concludes l path sent s).out.send ≡ sent ++ to_session l.leader.session (answer.Led (end_of_decision (decision l.leader path))) ∷ []
+told_at_once l path sent s h =
+    ap (λ out. sent ++ (tells l.leader.txn (decision l.leader path) out ++ ends_now out l.leader.session
+    (end_of_decision (decision l.leader path)))) h
 
-pub told_later : (l : Leading) (sent : List (Peer × Msg)) (s : Server) → is_some (slice_get (elsewhere s.me l) 0) ≡ true
-    → (concludes l sent s).out.send ≡ sent ++ tells l.leader.txn (decision l.leader None) (elsewhere s.me l)
-told_later l sent s = at (elsewhere s.me l)
+pub told_later : (l : Leading) (path : Option PathAnswer) (sent : List (Peer × Msg)) (s : Server)
+    → is_some (slice_get (elsewhere s.me l) 0) ≡ true → (concludes l path sent s).out.send ≡ sent ++ tells l.leader.txn (decision l.leader path) (elsewhere s.me l)
+told_later l path sent s = at (elsewhere s.me l)
   where
     at : (out : List (ℕ × ℕ)) → is_some (slice_get out 0) ≡ true
-        → sent ++ (tells l.leader.txn (decision l.leader None) out ++ ends_now out l.leader.session
-        (end_of_decision (decision l.leader None)))
-        ≡ sent ++ tells l.leader.txn (decision l.leader None) out
+        → sent ++ (tells l.leader.txn (decision l.leader path) out ++ ends_now out l.leader.session
+        (end_of_decision (decision l.leader path)))
+        ≡ sent ++ tells l.leader.txn (decision l.leader path) out
     at [] h = absurd (cc h)
-    at (x ∷ xs) h = ap (λ ms. sent ++ ms) (append-nil (tells l.leader.txn (decision l.leader None) (x ∷ xs)))
+    at (x ∷ xs) h = ap (λ ms. sent ++ ms) (append-nil (tells l.leader.txn (decision l.leader path) (x ∷ xs)))
 
 pub told_when_done : (m : Done) (s : Server) (x : Ending) → ending_of m.txn s.ending ≡ Some x → awaits_done m.number x.awaits ≡ true
     → (without_done m.number x).awaits ≡ [] → (done_step m s).out.send ≡ to_session x.session (answer.Led x.end) ∷ []
@@ -194,9 +195,9 @@ none_of_any e (x ∷ xs) = none_of_any e xs
 pub abort_changes_none : (me : ℕ) (l : Leading) (e : LedEnd) → own_effects me l (Abort e) ≡ []
 abort_changes_none me l e = none_of_any e (own_parts me l)
 
-pub abort_here : (l : Leading) (sent : List (Peer × Msg)) (s : Server) (e : LedEnd) → decision l.leader None ≡ Abort e
-    → ((concludes l sent s).server.records ≡ s.records) × ((concludes l sent s).out.admitted ≡ [])
-abort_here l sent s e d = (
+pub abort_here : (l : Leading) (path : Option PathAnswer) (sent : List (Peer × Msg)) (s : Server) (e : LedEnd)
+    → decision l.leader path ≡ Abort e → ((concludes l path sent s).server.records ≡ s.records) × ((concludes l path sent s).out.admitted ≡ [])
+abort_here l path sent s e d = (
   ap (λ d. records_after_all s.records (own_effects s.me l d)) d ∙ ap (records_after_all s.records) (abort_changes_none s.me l e),
   ap (λ d. admitted_of d l.leader) d,
 )
@@ -205,23 +206,32 @@ pub abort_told : (txn : TxnNo) (e : LedEnd) (out : List (ℕ × ℕ)) → tells 
     ≡ map (λ (x : ℕ × ℕ). to_server x.1 (peer.Decide (record { txn = txn; number = x.0; effects = [] }))) out
 abort_told txn e out = refl
 
+-- ## Cycles
+
+pub cycle_here : (l : Leading) (path : Option PathAnswer) (sent : List (Peer × Msg)) (s : Server) (effects : List (List Effect))
+    → decision l.leader path ≡ Commit Cycle effects → (concludes l path sent s).server.records ≡ s.records
+cycle_here l path sent s effects d =
+    ap (λ d. records_after_all s.records (own_effects s.me l d)) d
+    ∙ ap (records_after_all s.records) (cycle_changes_none s.me l path effects d)
+
 -- ## Nothing is admitted
 
-concludes_unadmitted : (l : Leading) (sent : List (Peer × Msg)) (s : Server) → (concludes l sent s).out.admitted ≡ []
-    → (concludes l sent s).server.records ≡ s.records
-concludes_unadmitted l sent s = at (decision l.leader None)
+concludes_unadmitted : (l : Leading) (path : Option PathAnswer) (sent : List (Peer × Msg)) (s : Server)
+    → (concludes l path sent s).out.admitted ≡ [] → (concludes l path sent s).server.records ≡ s.records
+concludes_unadmitted l path sent s = at (decision l.leader path)
   where
     at : (d : Decision) → admitted_of d l.leader ≡ [] → records_after_all s.records (own_effects s.me l d) ≡ s.records
     at (Commit r effects) h = absurd (cc h)
     at (Abort e) h = ap (records_after_all s.records) (abort_changes_none s.me l e)
 
-goes_on_unadmitted : (n : ServerNote) (l : Leading) (sent : List (Peer × Msg)) (s : Server) → (goes_on n l sent s).out.admitted ≡ []
-    → (goes_on n l sent s).server.records ≡ s.records
-goes_on_unadmitted n l sent s = at (is_full l.leader.votes)
+goes_on_unadmitted : (n : ServerNote) (l : Leading) (path : Option PathAnswer) (sent : List (Peer × Msg)) (s : Server)
+    → (goes_on n l path sent s).out.admitted ≡ []
+    → (goes_on n l path sent s).server.records ≡ s.records
+goes_on_unadmitted n l path sent s = at (is_full l.leader.votes)
   where
-    at : (b : Bool) → (cond b (concludes l sent s) (waits n l sent s)).out.admitted ≡ []
-        → (cond b (concludes l sent s) (waits n l sent s)).server.records ≡ s.records
-    at true h = concludes_unadmitted l sent s h
+    at : (b : Bool) → (cond b (concludes l path sent s) (waits n l sent s)).out.admitted ≡ []
+        → (cond b (concludes l path sent s) (waits n l sent s)).server.records ≡ s.records
+    at true h = concludes_unadmitted l path sent s h
     at false h = refl
 
 -- parts that vote or are asked for change no record
@@ -243,24 +253,28 @@ lead_unadmitted by m s = at (lead_step by m s) (lead_ends by m s)
     at : (x : Stepped) → LeadEnds by m s x → x.out.admitted ≡ [] → x.server.records ≡ s.records
     at x (unled l) h = refl
     at x (put_off w l r) h = refl
-    at x (begun l r) h =
-        let g : Round = round_of (mode_of m.op m.kind) by m s in
-        goes_on_unadmitted (note.Prepares (txn_of s)) (record { leader = leader_with (mode_of m.op m.kind) (txn_of s) by m g.votes; at = g.at }) g.send g.server h
-        ∙ rounds_records (txn_of s) 0 by (parts_in (mode_of m.op m.kind) m) (first_round s)
+    at x (wanted top dir l o) h = refl
+    at x (kept file txn l o) h = refl
+    at x (begun mode l b) h =
+        let g : Round = round_of mode by m s in
+        goes_on_unadmitted (note.Prepares (txn_of s)) (record { leader = leader_with mode (txn_of s) by m g.votes; at = g.at })
+        (path_for mode m.op s) g.send g.server h
+        ∙ rounds_records (txn_of s) 0 by (parts_in mode m) (first_round s)
 
 pub vote_unadmitted : (m : Voted) (s : Server) → (vote_step m s).out.admitted ≡ [] → (vote_step m s).server.records ≡ s.records
 vote_unadmitted m s = at (leading_of m.txn s.leading)
   where
     counted : (v : Vote) (l : Leading) (t : Server) → (counts m.number v l t).out.admitted ≡ []
         → (counts m.number v l t).server.records ≡ t.records
-    counted v l t = goes_on_unadmitted (note.Waits l.leader.txn) (with_vote m.number v l) [] t
+    counted v l t = goes_on_unadmitted (note.Waits l.leader.txn) (with_vote m.number v l) (path_for l.leader.mode l.leader.op t) [] t
 
     home : (p : Part) (l : Leading) (b : Bool) → (cond b (counts_own m.number p (vote_here s l.leader.session p) l s)
         (seeks m.number (server_of s.map p.file) p l s)).out.admitted ≡ []
         → (cond b (counts_own m.number p (vote_here s l.leader.session p) l s)
         (seeks m.number (server_of s.map p.file) p l s)).server.records ≡ s.records
     home p l true h = let v : Vote = vote_here s l.leader.session p in goes_on_unadmitted (note.Waits l.leader.txn)
-        (with_vote m.number v (asked_at m.number s.me l)) (recalls_for v s p) (after_own_vote l.leader.txn p v s) h
+        (with_vote m.number v (asked_at m.number s.me l)) (path_for l.leader.mode l.leader.op s) (recalls_for v s p)
+        (after_own_vote l.leader.txn p v s) h
     home p l false h = refl
 
     sent : (to : ℕ) (l : Leading) (o : Option Part) → (sent_on m.number to o l s).out.admitted ≡ []

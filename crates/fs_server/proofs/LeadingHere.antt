@@ -10,6 +10,7 @@ use Rattle.fs_ident.specs.declared.actor.Session.{Session}
 use Rattle.fs_ident.specs.declared.actor.TxnNo.{TxnNo}
 use Rattle.fs_field.specs.Table.{is_lock_of, same_txn, unlocked_row}
 use Rattle.fs_field.specs.declared.effect.Effect.{Effect}
+use Rattle.fs_field.specs.declared.path.PathAnswer.{PathAnswer}
 use Rattle.fs_field.specs.declared.row.Row.{Row}
 use Rattle.fs_field.specs.declared.used.Part.{Part}
 use Rattle.fs_field.specs.declared.used.Use.{Use}
@@ -32,18 +33,19 @@ use Rattle.fs_txn.specs.declared.mode.Mode2.{Mode2}
 use Rattle.fs_txn.proofs.Keys.{txn_is, txn_itself}
 use Rattle.fs_txn.proofs.Locking.{locked}
 use Rattle.fs_txn.proofs.Yeses.{commit_yes}
-use Rattle.fs_server.specs.Begins.{begins, begun_with, leader_with, parts_in, rounds, txn_of}
-use Rattle.fs_server.specs.Concludes.{admitted_of, concludes, end_note, end_of_decision, ends_with, waits}
+use Rattle.fs_server.specs.Begins.{Round, begins, begun_with, leader_with, parts_in, rounds, txn_of}
+use Rattle.fs_server.specs.Concludes.{admitted_of, concludes, end_note, end_of_decision, ends_with, path_for, waits}
 use Rattle.fs_server.specs.Follows.{vote_here}
 use Rattle.fs_server.specs.Gathered.{gathered_by, keeping}
-use Rattle.fs_server.specs.Laws.{all_effects, concluded, has_all, recalls_here, votes_here}
+use Rattle.fs_server.specs.Laws.{BeginsIn, all_effects, concluded, has_all, recalls_here, votes_here}
 use Rattle.fs_server.specs.LeadingLaws.{HasNextTxn, IsNewTxn}
-use Rattle.fs_server.specs.Leads.{is_led, lead_refusal, lead_step, leads_unless, mode_of}
-use Rattle.fs_server.specs.Server.{strange, to_session}
+use Rattle.fs_server.specs.Leads.{is_led, lead_step}
+use Rattle.fs_server.specs.Server.{to_session}
 use Rattle.fs_server.specs.declared.state.Server.{Server}
 use Rattle.fs_server.proofs.Gathering.{all_gathered, all_own, files_kept, first_gathered, nothing_gathered, own_votes, uses_kept}
 use Rattle.fs_server.proofs.Goes.{files_back}
 use Rattle.fs_server.proofs.LeaderLaws.{abort_changes_none}
+use Rattle.fs_server.proofs.Leading.{led_in_mode}
 use Rattle.fs_server.proofs.Splitting.{commit_effects, picked, told_picked}
 
 -- ## Rows that are locked and unlocked again
@@ -134,8 +136,12 @@ module _ (mode : Mode2) (by : Session) (m : Lead) (s : Server) where
   abbrev its : Leading
   its = record { leader = leader_with mode (txn_of s) by m votes; at = map (λ (p : Part). s.me) (parts_in mode m) }
 
+  -- as the event finds it
+  abbrev path : Option PathAnswer
+  path = path_for mode m.op s
+
   abbrev decided : Decision
-  decided = decision its.leader None
+  decided = decision its.leader path
 
   as_many_asked : length its.at ≡ length its.leader.votes
   as_many_asked = length-map (parts_in mode m) (λ (p : Part). s.me) ∙ sym (length-map (parts_in mode m) (λ (p : Part). Some (vote_here s by p)))
@@ -148,27 +154,27 @@ module _ (mode : Mode2) (by : Session) (m : Lead) (s : Server) where
       at (Abort e) q = abort_changes_none s.me its e
       at (Commit r effects) q =
           let is : effects ≡ map (λ (p : Part). effects_on (led_effects m.op m.file r) p.file)
-          (parts_in mode m) = commit_effects its.leader r effects q in
+          (parts_in mode m) = commit_effects its.leader path r effects q in
           let as_many : length effects ≡ length its.leader.votes = ap length is
           ∙ length-map (parts_in mode m) (λ (p : Part). effects_on (led_effects m.op m.file r) p.file)
           ∙ sym (length-map (parts_in mode m) (λ (p : Part). Some (vote_here s by p))) in
-          told_picked (λ k. k == s.me) r effects its (commit_yes its.leader None r effects q) as_many_asked as_many
+          told_picked (λ k. k == s.me) r effects its (commit_yes its.leader path r effects q) as_many_asked as_many
           ∙ ap (picked (λ k. k == s.me) its.at) is
           ∙ all_picked s.me (λ (p : Part). effects_on (led_effects m.op m.file r) p.file) (parts_in mode m)
           ∙ ap (flat_map (λ (es : List Effect). es)) (sym is)
 
   gathered_here : has_all s (parts_in mode m) ≡ true → begins mode by m s
-      ≡ begun_with mode by m (txn_of s) (gathered_by (all_own by (parts_in mode m) s nothing_gathered) (txn_of s) s)
-  gathered_here h = ap (begun_with mode by m (txn_of s))
+      ≡ begun_with mode by m (txn_of s) (gathered_by (all_own by (parts_in mode m) s nothing_gathered) (txn_of s) s) path
+  gathered_here h = ap (λ (r : Round). begun_with mode by m (txn_of s) r path)
       (ap (rounds (txn_of s) 0 by (parts_in mode m)) (sym (first_gathered (txn_of s) s))
       ∙ all_gathered (txn_of s) 0 by (parts_in mode m) s nothing_gathered h)
 
-  full_here : begun_with mode by m (txn_of s) (gathered_by (all_own by (parts_in mode m) s nothing_gathered) (txn_of s) s)
-      ≡ concludes its back (keeping true (txn_of s) used kept s)
-  full_here = ap (λ b. cond b (concludes its back (keeping true (txn_of s) used kept s))
+  full_here : begun_with mode by m (txn_of s) (gathered_by (all_own by (parts_in mode m) s nothing_gathered) (txn_of s) s) path
+      ≡ concludes its path back (keeping true (txn_of s) used kept s)
+  full_here = ap (λ b. cond b (concludes its path back (keeping true (txn_of s) used kept s))
       (waits (note.Prepares (txn_of s)) its back (keeping true (txn_of s) used kept s))) (all_full s by (parts_in mode m))
 
-  concluded_here : HasNextTxn s → concludes its back (keeping true (txn_of s) used kept s) ≡ concluded decided mode by m s
+  concluded_here : HasNextTxn s → concludes its path back (keeping true (txn_of s) used kept s) ≡ concluded decided mode by m s
   concluded_here n =
       ap (λ out. ends_with decided out its back (keeping true (txn_of s) used kept s)) (none_elsewhere s.me 0 votes (parts_in mode m))
       ∙ λ i. record {
@@ -192,11 +198,7 @@ module _ (mode : Mode2) (by : Session) (m : Lead) (s : Server) where
   decided_so : has_all s (parts_in mode m) ≡ true → HasNextTxn s → begins mode by m s ≡ concluded decided mode by m s
   decided_so h n = gathered_here h ∙ full_here ∙ concluded_here n
 
-pub decided_here : (by : Session) (m : Lead) (mode : Mode2) (s : Server) → is_led m.op ≡ true → mode_of m.op m.kind ≡ mode
-    → lead_refusal s m ≡ None → has_all s (parts_in mode m) ≡ true → HasNextTxn s
-    → lead_step by m s ≡ concluded (decision (leader_with mode (txn_of s) by m (votes_here mode by m s)) None) mode by m s
-decided_here by m mode s l k r h n =
-    ap (λ b. cond b (leads_unless (lead_refusal s m) by m s) (strange s)) l
-    ∙ ap (λ o. leads_unless o by m s) r
-    ∙ ap (λ x. begins x by m s) k
-    ∙ decided_so mode by m s h n
+pub decided_here : (by : Session) (m : Lead) (mode : Mode2) (s : Server) → is_led m.op ≡ true → BeginsIn m s mode
+    → has_all s (parts_in mode m) ≡ true → HasNextTxn s
+    → lead_step by m s ≡ concluded (decision (leader_with mode (txn_of s) by m (votes_here mode by m s)) (path_for mode m.op s)) mode by m s
+decided_here by m mode s l b h n = led_in_mode by m mode s l b ∙ decided_so mode by m s h n

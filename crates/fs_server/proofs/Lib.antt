@@ -27,6 +27,8 @@ mod Freezing
 mod LeaderLaws
 pub mod Splitting
 mod LeadingHere
+pub mod OnPaths
 mod Beginning
 mod PathAsking
 mod PathLaws
+mod LeadersAsk

@@ -1,17 +1,16 @@
 -- What goes to another server, and what comes from one.
-use Rattle.std.proofs.Common.{◌≡◌, ◌==◌, not, ◌&&◌, ◌||◌, ℕ, ◌≤◌, Bool, true, List, [], ◌∷◌, refl, ap, sym, subst, ◌∙◌, inl, inr, arith}
+use Rattle.std.proofs.Common.{◌≡◌, ◌==◌, not, ◌&&◌, ◌||◌, ℕ, ◌≤◌, true, List, [], ◌∷◌, refl, ap, sym, subst, ◌∙◌, inl, inr, arith}
 use Rattle.std.specs.Prelude.{nat_le}
 use Rattle.std.specs.List.{list_all}
 use Rattle.std.proofs.lemmas.Bool.Decides.{nat_tests}
 use Rattle.fs_ident.specs.declared.actor.LeaseNo.{LeaseNo}
 use Rattle.fs_ident.specs.declared.actor.Peer.{Peer}
 use Rattle.fs_ident.specs.declared.actor.Peer.TheVariants.{Server as OfServer}
-use Rattle.fs_ident.proofs.Booleans.{both as both_hold, second}
-use Rattle.fs_ident.proofs.Passing.{all-In}
+use Rattle.fs_ident.proofs.Booleans.{both as both_hold}
 use Rattle.fs_ident.proofs.Standing.{In-put}
 use Rattle.fs_field.specs.Table.{no_before, with_row}
 use Rattle.fs_field.specs.declared.row.Row.{Row}
-use Rattle.fs_map.specs.Lists.{is_piece, map_after_take}
+use Rattle.fs_map.specs.Lists.{map_after_take}
 use Rattle.fs_map.specs.Map.{IsPiece, Owners, server_of}
 use Rattle.fs_map.specs.declared.piece.MapPiece.{MapPiece}
 use Rattle.fs_map.proofs.Owned.{piece_piece}
@@ -22,16 +21,15 @@ use Rattle.fs_msg.specs.declared.peer_msg.PeerMsg.TheVariants as peer
 use Rattle.fs_msg.specs.declared.server_note.ServerNote.TheVariants as note
 use Rattle.fs_ident.specs.Ident.{same}
 use Rattle.fs_ident.specs.Ordered.{Keyed}
-use Rattle.fs_record.specs.Moving.{AreEachRecords, are_distinct, records_given, records_left, with_records}
+use Rattle.fs_record.specs.Moving.{records_given, records_left, with_records}
 use Rattle.fs_record.specs.Records.{RecordMap}
 use Rattle.fs_record.specs.declared.parcel.Parcel.{Parcel}
 use Rattle.fs_record.specs.declared.record.Record.{Record}
-use Rattle.fs_record.proofs.Rising.{test_order}
 use Rattle.fs_rows.specs.Given.{AreGiven}
 use Rattle.fs_rows.specs.Granted.{with_rows}
 use Rattle.fs_rows.specs.Moving.{is_on_given, rows_left}
 use Rattle.fs_rows.proofs.Numbers.{given_filter}
-use Rattle.fs_parcel.specs.Parcel.{fits, is_formed, is_in_order, parcel_of}
+use Rattle.fs_parcel.specs.Parcel.{fits, parcel_of}
 use Rattle.fs_parcel.specs.Rows.{in_one_list}
 use Rattle.fs_parcel.proofs.Both.{filtered_rows}
 use Rattle.fs_parcel.proofs.Formed.{fitting}

@@ -13,7 +13,6 @@ use Rattle.fs_field.specs.declared.effect.Effect.TheVariants.{SetChild, SetParen
 use Rattle.fs_field.specs.declared.path.PathAnswer.{PathAnswer}
 use Rattle.fs_field.specs.declared.used.Part.{Part}
 use Rattle.fs_field.specs.declared.used.Use.{Use}
-use Rattle.fs_field.specs.declared.vote.Vote.{Vote}
 use Rattle.fs_field.specs.After.{changed_file}
 use Rattle.fs_model.specs.Asking.{home_of}
 use Rattle.fs_model.specs.declared.op.Op.{Op}
@@ -32,7 +31,6 @@ use Rattle.fs_txn.specs.Votes.{Votes}
 use Rattle.fs_txn.specs.declared.decision.Decision.{Decision}
 use Rattle.fs_txn.specs.declared.leader.Leader.{Leader}
 use Rattle.fs_txn.specs.declared.leading.Leading.{Leading}
-use Rattle.fs_txn.specs.declared.mode.Mode2.{Mode2}
 use Rattle.fs_txn.proofs.HomeTold.{others_are_decided}
 use Rattle.fs_txn.proofs.Parted.{decision_is, part_files}
 use Rattle.fs_txn.proofs.Waiting.{in_their_order}

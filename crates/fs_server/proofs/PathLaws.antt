@@ -16,14 +16,14 @@ use Rattle.fs_msg.specs.declared.msg.Msg.TheVariants as msg
 use Rattle.fs_msg.specs.declared.peer_msg.PeerMsg.{PeerMsg}
 use Rattle.fs_msg.specs.declared.peer_msg.PeerMsg.TheVariants as peer
 use Rattle.fs_msg.specs.declared.server_note.ServerNote.TheVariants as note
-use Rattle.fs_path.specs.Leases.{PathLease, path_before}
+use Rattle.fs_path.specs.Leases.{path_before}
 use Rattle.fs_path.specs.Tables.{frozen_for, holds}
 use Rattle.fs_record.specs.declared.led_end.Why.{Why}
 use Rattle.fs_record.specs.declared.led_end.Why.TheVariants as why
 use Rattle.fs_server.specs.Follows.{to_server}
 use Rattle.fs_server.specs.Laws.{CanBeGiven, IsAskedFirst, IsGivenOut, IsSentOn}
 use Rattle.fs_server.specs.Leads.{moved_why}
-use Rattle.fs_server.specs.PathSteps.{answers_path, asks_up, denies, dir_here, fails_path, gives_path, has_child, is_asking, is_same_dir, keeps_path, last_dir, lease_to}
+use Rattle.fs_server.specs.PathSteps.{answers_path, asks_nobody, asks_up, denies, dir_here, fails_path, has_child, is_asking, is_same_dir, keeps_path, last_dir, lease_to}
 use Rattle.fs_server.specs.PathSteps.{moved_path, path_ask_step, path_grant_step, path_here, path_no_step, path_number, seeks_path, unless_kept, sends, with_asking, without_asking}
 use Rattle.fs_server.specs.Server.{Stepped, is_mine, strange}
 use Rattle.fs_server.specs.declared.state.Server.{Server}
@@ -74,7 +74,7 @@ module _ (from : ℕ) (file dir : List ℕ) (s : Server) (number : PathNo) where
 -- ## Questions for a path
 
 -- the same message to a server
-told_same : (a b : ℕ) (m n : PeerMsg) → to_server a m ≡ to_server b n → m ≡ n
+pub told_same : (a b : ℕ) (m n : PeerMsg) → to_server a m ≡ to_server b n → m ≡ n
 told_same a b m n e = let q : msg.Peer m ≡ msg.Peer n = ap (λ p. p.1) e in cc q
 
 -- a path is denied, or given out: none is asked for
@@ -89,16 +89,20 @@ stands file s = by (is_asking file s) refl
     by true e = e
     by false e = list_any-append (λ f. same f file) s.asking (file ∷ []) ∙ ap (λ b. b || (same file file || false)) e ∙ ap (λ b. b || false) (same_self file)
 
+nothing_left : (a b : Bool) → (a || b) ≡ false → a ≡ false
+nothing_left true b e = absurd (cc e)
+nothing_left false b e = refl
+
 -- one that is sent stands, and none did
-up_first : (a : ℕ) (top dir f up : List ℕ) (s : Server) → In (to_server a (peer.PathAsk f up)) (asks_up top dir s) → IsAskedFirst f s (with_asking top s)
-up_first a top dir f up s h = by (is_asking top s) refl h
+pub up_first : (a : ℕ) (top dir f up : List ℕ) (s : Server) → In (to_server a (peer.PathAsk f up)) (asks_up top dir s) → IsAskedFirst f s (with_asking top s)
+up_first a top dir f up s h = by (asks_nobody top dir s) refl h
   where
-    by : (b : Bool) → is_asking top s ≡ b → In (to_server a (peer.PathAsk f up)) (cond b [] (to_server (server_of s.map dir) (peer.PathAsk top dir) ∷ [])) → IsAskedFirst f s (with_asking top s)
+    by : (b : Bool) → asks_nobody top dir s ≡ b → In (to_server a (peer.PathAsk f up)) (cond b [] (to_server (server_of s.map dir) (peer.PathAsk top dir) ∷ [])) → IsAskedFirst f s (with_asking top s)
     by true e h = absurd h
     by false e (inr h) = absurd h
     by false e (inl q) =
         let same_file : top ≡ f = cc (told_same a (server_of s.map dir) (peer.PathAsk f up) (peer.PathAsk top dir) q) in
-        record { before = ap (λ x. is_asking x s) (sym same_file) ∙ e; stands = ap (λ x. is_asking x (with_asking top s)) (sym same_file) ∙ stands top s }
+        record { before = ap (λ x. is_asking x s) (sym same_file) ∙ nothing_left (is_asking top s) (is_mine s dir) e; stands = ap (λ x. is_asking x (with_asking top s)) (sym same_file) ∙ stands top s }
 
 module _ (a from : ℕ) (file dir f up : List ℕ) (s : Server) where
   first_by : (x : PathAnswer) → In (to_server a (peer.PathAsk f up)) (answers_path from file x s).out.send → IsAskedFirst f s (answers_path from file x s).server
@@ -123,7 +127,7 @@ module _ (a from : ℕ) (file dir f up : List ℕ) (s : Server) where
 
 -- one question at most goes up
 pub asked_once : (file dir : List ℕ) (s : Server) → length (asks_up file dir s) ≤ 1
-asked_once file dir s = by (is_asking file s)
+asked_once file dir s = by (asks_nobody file dir s)
   where
     by : (b : Bool) → length (cond b [] (to_server (server_of s.map dir) (peer.PathAsk file dir) ∷ [])) ≤ 1
     by true = omega arith

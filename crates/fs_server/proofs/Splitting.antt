@@ -1,27 +1,30 @@
 -- A commit, split by the servers of its parts.
 use Rattle.std.proofs.Common.{◌≡◌, ◌==◌, ◌+◌, ℕ, zero, suc, Bool, true, false, not, List, [], ◌∷◌}
 use Rattle.std.proofs.Common.{◌++◌, cond, length, map, refl, ap, ap₂, sym, ◌∙◌, subst, inl, inr, arith}
-use Rattle.std.specs.Prelude.{Option, Some, None, slice_get, unwrap_or}
+use Rattle.std.specs.Prelude.{Option, Some, None, option_map, slice_get, unwrap_or}
 use Rattle.std.specs.List.{filter, flat_map, list_any}
 use Rattle.std.proofs.lemmas.Bool.{eqb-true}
 use Rattle.std.proofs.lemmas.List.{length-map}
 use Rattle.std.proofs.lemmas.List.Elements.{filter-append}
+use Rattle.std.proofs.lemmas.Option.{slice_get-map}
 use Rattle.fs_ident.specs.Ident.{same}
 use Rattle.fs_ident.specs.In.{In}
 use Rattle.fs_ident.proofs.Same.{same_is}
 use Rattle.fs_ident.proofs.Standing.{In-filter, any_In, none_any}
 use Rattle.fs_field.specs.After.{changed_file}
 use Rattle.fs_field.specs.declared.effect.Effect.{Effect}
+use Rattle.fs_field.specs.declared.path.PathAnswer.{PathAnswer}
 use Rattle.fs_field.specs.declared.used.Part.{Part}
 use Rattle.fs_field.specs.declared.used.Use.{Use}
-use Rattle.fs_field.specs.declared.vote.Vote.{Vote}
-use Rattle.fs_field.specs.declared.vote.Vote.TheVariants.{Yes}
+use Rattle.fs_model.specs.declared.op.Op.{Op}
+use Rattle.fs_model.specs.declared.op.Op.TheVariants as op
 use Rattle.fs_model.specs.declared.reply.Reply.{Reply}
+use Rattle.fs_model.specs.declared.reply.Reply.TheVariants.{Cycle}
 use Rattle.fs_moderows.proofs.Witnesses.{In_filtered}
 use Rattle.fs_record.specs.Applied.{records_after_all}
 use Rattle.fs_record.specs.LedEffects.{led_effects}
 use Rattle.fs_txn.specs.Deciding.{commit, decision, effects_on, told_effects}
-use Rattle.fs_txn.specs.Leading.{IsWholeLeader, elsewhere, own_effects, said_yes, yes_from}
+use Rattle.fs_txn.specs.Leading.{IsWholeLeader, elsewhere, own_effects, own_parts, said_yes, yes_from}
 use Rattle.fs_txn.specs.Votes.{Votes}
 use Rattle.fs_txn.specs.declared.decision.Decision.TheVariants.{Commit}
 use Rattle.fs_txn.specs.declared.leader.Leader.{Leader}
@@ -29,14 +32,14 @@ use Rattle.fs_txn.specs.declared.leading.Leading.{Leading}
 use Rattle.fs_txn.proofs.Parted.{decision_is, part_files}
 use Rattle.fs_txn.proofs.Shared.{parts_share}
 use Rattle.fs_txn.proofs.Yeses.{commit_yes}
-use Rattle.fs_server.specs.LeadingLaws.{CommitSplits, goes_from, has_effect}
+use Rattle.fs_server.specs.LeadingLaws.{AreYes, CommitSplits, goes_from, has_effect}
 
 -- ## The effects of a commit
 
-pub commit_effects : (l : Leader) (r : Reply) (effects : List (List Effect)) → decision l None ≡ Commit r effects
+pub commit_effects : (l : Leader) (path : Option PathAnswer) (r : Reply) (effects : List (List Effect)) → decision l path ≡ Commit r effects
     → effects ≡ map (λ (p : Part). effects_on (led_effects l.op l.file r) p.file) l.parts
-commit_effects l r effects = decision_is l (λ d. d ≡ Commit r effects
-    → effects ≡ map (λ (p : Part). effects_on (led_effects l.op l.file r) p.file) l.parts) (λ e q. absurd (cc q)) its None
+commit_effects l path r effects = decision_is l (λ d. d ≡ Commit r effects
+    → effects ≡ map (λ (p : Part). effects_on (led_effects l.op l.file r) p.file) l.parts) (λ e q. absurd (cc q)) its path
   where
     its : (x : Reply) → commit l x ≡ Commit r effects → effects ≡ map (λ (p : Part). effects_on (led_effects l.op l.file r) p.file) l.parts
     its x q =
@@ -45,9 +48,6 @@ commit_effects l r effects = decision_is l (λ d. d ≡ Commit r effects
         sym b ∙ ap (λ y. map (λ (p : Part). effects_on (led_effects l.op l.file y) p.file) l.parts) a
 
 -- ## Those of some servers
-
-abbrev pub AreYes : Votes → Type 0
-AreYes votes = (v : Option Vote) → In v votes → v ≡ Some Yes
 
 -- the lists of the servers that pass, in their order
 abbrev pub picked : (ℕ → Bool) → List ℕ → List (List Effect) → List Effect
@@ -243,10 +243,10 @@ twice true = refl
 twice false = refl
 
 pub commit_splits : CommitSplits
-commit_splits me l uses r effects w h s d =
+commit_splits me l uses path r effects w h s d =
     let es : List Effect = led_effects l.leader.op l.leader.file r in
-    let y : AreYes l.leader.votes = commit_yes l.leader None r effects d in
-    let is : effects ≡ map (λ (p : Part). effects_on es p.file) l.leader.parts = commit_effects l.leader r effects d in
+    let y : AreYes l.leader.votes = commit_yes l.leader path r effects d in
+    let is : effects ≡ map (λ (p : Part). effects_on es p.file) l.leader.parts = commit_effects l.leader path r effects d in
     let as_many : length effects ≡ length l.leader.votes = ap length is ∙ length-map l.leader.parts (λ (p : Part). effects_on es p.file)
     ∙ sym w.votes in
     let shared : flat_map (λ (p : Part). effects_on es p.file) l.leader.parts ≡ es =
@@ -263,3 +263,31 @@ commit_splits me l uses r effects w h s d =
           ∙ picked_pass (λ k. not (k == me)) (goes_from me l) es l.leader.parts l.at (goes_so me l uses w y) w.asked
           ∙ ap (filter (goes_from me l)) shared,
     )
+
+-- ## A cycle
+
+cycle_makes_none : (o : Op) (file : List ℕ) → led_effects o file Cycle ≡ []
+cycle_makes_none (op.Rename sdir sname ddir dname) file = refl
+cycle_makes_none (op.Delete dir name) file = refl
+cycle_makes_none o file = refl
+
+-- no part is told any effect
+pub cycle_tells_none : (l : Leader) (path : Option PathAnswer) (effects : List (List Effect)) (number : ℕ)
+    → decision l path ≡ Commit Cycle effects → told_effects (Commit Cycle effects) number ≡ []
+cycle_tells_none l path effects number d =
+    ap (λ es. unwrap_or (slice_get es number) []) (commit_effects l path Cycle effects d
+    ∙ ap (λ es. map (λ (p : Part). effects_on es p.file) l.parts) (cycle_makes_none l.op l.file))
+    ∙ ap (λ (o : Option (List Effect)). unwrap_or o []) (slice_get-map (λ (p : Part). effects_on [] p.file) l.parts number)
+    ∙ none (slice_get l.parts number)
+  where
+    none : (o : Option Part) → unwrap_or (option_map (λ (p : Part). effects_on [] p.file) o) [] ≡ []
+    none None = refl
+    none (Some p) = refl
+
+pub cycle_changes_none : (me : ℕ) (l : Leading) (path : Option PathAnswer) (effects : List (List Effect))
+    → decision l.leader path ≡ Commit Cycle effects → own_effects me l (Commit Cycle effects) ≡ []
+cycle_changes_none me l path effects d = each (own_parts me l)
+  where
+    each : (parts : List (ℕ × ℕ)) → flat_map (λ (x : ℕ × ℕ). told_effects (Commit Cycle effects) x.0) parts ≡ []
+    each [] = refl
+    each (x ∷ xs) = ap₂ (λ es fs. es ++ fs) (cycle_tells_none l.leader path effects x.0 d) (each xs)

@@ -1,10 +1,11 @@
 -- A transaction begins: its parts that are here vote at once, and others are asked for.
-use Rattle.std.specs.Prelude.{ℕ, ◌+◌, List, [], ◌∷◌, ◌++◌, Some, None, if◌then◌else◌}
+use Rattle.std.specs.Prelude.{ℕ, ◌+◌, List, [], ◌∷◌, ◌++◌, Option, Some, None, if◌then◌else◌}
 use Rattle.fs_ident.specs.declared.actor.Peer.{Peer}
 use Rattle.fs_ident.specs.declared.actor.Session.{Session}
 use Rattle.fs_ident.specs.declared.actor.TxnNo.{TxnNo}
 use Rattle.fs_field.specs.declared.used.Part.{Part}
 use Rattle.fs_field.specs.declared.vote.Vote.{Vote}
+use Rattle.fs_field.specs.declared.path.PathAnswer.{PathAnswer}
 use Rattle.fs_map.specs.Map.{server_of}
 use Rattle.fs_msg.specs.declared.lead.Lead.{Lead}
 use Rattle.fs_msg.specs.declared.msg.Msg.{Msg}
@@ -13,7 +14,7 @@ use Rattle.fs_txn.specs.Parts.{parts_of}
 use Rattle.fs_txn.specs.Votes.{Votes}
 use Rattle.fs_txn.specs.declared.leader.Leader.{Leader}
 use Rattle.fs_txn.specs.declared.mode.Mode2.{Mode2}
-use Rattle.fs_server.specs.Concludes.{goes_on}
+use Rattle.fs_server.specs.Concludes.{goes_on, path_for}
 use Rattle.fs_server.specs.Counts.{after_own_vote, ask_for}
 use Rattle.fs_server.specs.Follows.{recalls_for, to_server, vote_here}
 use Rattle.fs_server.specs.Server.{Stepped, is_mine}
@@ -83,9 +84,10 @@ leader_with mode txn by m votes = record {
   votes = votes;
 }
 
-abbrev pub begun_with : Mode2 → Session → Lead → TxnNo → Round → Stepped
-begun_with mode by m txn r = goes_on (note.Prepares txn) (record { leader = leader_with mode txn by m r.votes; at = r.at }) r.send r.server
+abbrev pub begun_with : Mode2 → Session → Lead → TxnNo → Round → Option PathAnswer → Stepped
+begun_with mode by m txn r path =
+    goes_on (note.Prepares txn) (record { leader = leader_with mode txn by m r.votes; at = r.at }) path r.send r.server
 
 -- every part votes or is asked for; where all have voted it is decided
 abbrev pub begins : Mode2 → Session → Lead → Server → Stepped
-begins mode by m s = begun_with mode by m (txn_of s) (round_of mode by m s)
+begins mode by m s = begun_with mode by m (txn_of s) (round_of mode by m s) (path_for mode m.op s)

@@ -1,9 +1,13 @@
 -- A transaction that this server leads goes on: it waits, or is decided once all of its parts have voted.
-use Rattle.std.specs.Prelude.{ℕ, Bool, ◌&&◌, List, [], ◌∷◌, ◌++◌, map, None, is_some, slice_get, if◌then◌else◌}
+use Rattle.std.specs.Prelude.{ℕ, Bool, ◌&&◌, List, [], ◌∷◌, ◌++◌, map, Option, Some, None, is_some, slice_get, if◌then◌else◌}
+use Rattle.std.specs.FinMap.{get}
 use Rattle.fs_ident.specs.declared.actor.Peer.{Peer}
 use Rattle.fs_ident.specs.declared.actor.Peer.TheVariants.{Client}
 use Rattle.fs_ident.specs.declared.actor.Session.{Session}
 use Rattle.fs_ident.specs.declared.actor.TxnNo.{TxnNo}
+use Rattle.fs_field.specs.declared.path.PathAnswer.{PathAnswer}
+use Rattle.fs_model.specs.Asking.{home_of}
+use Rattle.fs_model.specs.declared.op.Op.{Op}
 use Rattle.fs_msg.specs.declared.answer.Answer.TheVariants as answer
 use Rattle.fs_msg.specs.declared.item.Item.{Item}
 use Rattle.fs_msg.specs.declared.msg.Msg.{Msg}
@@ -13,7 +17,7 @@ use Rattle.fs_msg.specs.declared.server_note.ServerNote.TheVariants as note
 use Rattle.fs_record.specs.Applied.{records_after_all}
 use Rattle.fs_record.specs.declared.led_end.LedEnd.{LedEnd}
 use Rattle.fs_record.specs.declared.led_end.LedEnd.TheVariants as led
-use Rattle.fs_txn.specs.Deciding.{decision, keeps_rows, told_effects}
+use Rattle.fs_txn.specs.Deciding.{decision, keeps_rows, needs_path, told_effects}
 pub use Rattle.fs_txn.specs.Leading.{end_of_decision}
 use Rattle.fs_txn.specs.Leading.{elsewhere, own_effects, with_ending, with_leading, without_leading}
 use Rattle.fs_txn.specs.Locks.{rows_unlocked}
@@ -22,7 +26,9 @@ use Rattle.fs_txn.specs.declared.decision.Decision.{Decision}
 use Rattle.fs_txn.specs.declared.decision.Decision.TheVariants.{Commit, Abort}
 use Rattle.fs_txn.specs.declared.leader.Leader.{Leader}
 use Rattle.fs_txn.specs.declared.leading.Leading.{Leading}
+use Rattle.fs_txn.specs.declared.mode.Mode2.{Mode2}
 use Rattle.fs_server.specs.Follows.{paths_freed, to_server}
+use Rattle.fs_server.specs.PathsHere.{path_here}
 use Rattle.fs_server.specs.Server.{Stepped, to_session}
 use Rattle.fs_server.specs.declared.state.Server.{Server}
 
@@ -73,9 +79,13 @@ ends_with d out l sent s = record {
   };
 }
 
--- all parts have voted. Where it would stand on a path it was not begun, so none counts
-abbrev pub concludes : Leading → List (Peer × Msg) → Server → Stepped
-concludes l sent s = ends_with (decision l.leader None) (elsewhere s.me l) l sent s
+-- where the decision stands on a path, that of the home as the event finds it, while its record is here
+abbrev pub path_for : Mode2 → Op → Server → Option PathAnswer
+path_for mode o s = if needs_path mode o && is_some (get s.records (home_of o)) then Some (path_here s (home_of o)) else None
+
+-- all parts have voted, and this is the path
+abbrev pub concludes : Leading → Option PathAnswer → List (Peer × Msg) → Server → Stepped
+concludes l path sent s = ends_with (decision l.leader path) (elsewhere s.me l) l sent s
 
 -- ## Not decided yet
 
@@ -86,5 +96,5 @@ waits n l sent s = record {
 }
 
 -- it is decided where all parts have voted
-abbrev pub goes_on : ServerNote → Leading → List (Peer × Msg) → Server → Stepped
-goes_on n l sent s = if is_full l.leader.votes then concludes l sent s else waits n l sent s
+abbrev pub goes_on : ServerNote → Leading → Option PathAnswer → List (Peer × Msg) → Server → Stepped
+goes_on n l path sent s = if is_full l.leader.votes then concludes l path sent s else waits n l sent s

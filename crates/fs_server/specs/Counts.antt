@@ -1,6 +1,5 @@
 -- What other servers tell of transactions that this one leads: their votes, and that what was decided is done.
 use Rattle.std.specs.Prelude.{ℕ, ◌==◌, List, [], ◌∷◌, Option, Some, None, slice_get, slice_set, if◌then◌else◌}
-use Rattle.fs_ident.specs.declared.actor.Peer.{Peer}
 use Rattle.fs_ident.specs.declared.actor.Session.{Session}
 use Rattle.fs_ident.specs.declared.actor.TxnNo.{TxnNo}
 use Rattle.fs_field.specs.declared.used.Part.{Part}
@@ -20,7 +19,7 @@ use Rattle.fs_txn.specs.Preparing.{rows_voted}
 use Rattle.fs_txn.specs.Votes.{after_vote, awaits}
 use Rattle.fs_txn.specs.declared.leading.Ending.{Ending}
 use Rattle.fs_txn.specs.declared.leading.Leading.{Leading}
-use Rattle.fs_server.specs.Concludes.{goes_on, waits}
+use Rattle.fs_server.specs.Concludes.{goes_on, path_for, waits}
 use Rattle.fs_server.specs.Follows.{paths_kept, recalls_for, to_server, vote_here}
 use Rattle.fs_server.specs.Server.{Stepped, is_mine, strange, to_session}
 use Rattle.fs_server.specs.declared.state.Server.{Server}
@@ -52,12 +51,13 @@ abbrev pub with_vote : ℕ → Vote → Leading → Leading
 with_vote number v l = record l { leader = after_vote number v l.leader }
 
 abbrev pub counts : ℕ → Vote → Leading → Server → Stepped
-counts number v l s = goes_on (note.Waits l.leader.txn) (with_vote number v l) [] s
+counts number v l s = goes_on (note.Waits l.leader.txn) (with_vote number v l) (path_for l.leader.mode l.leader.op s) [] s
 
 -- this server votes on the part itself
 abbrev pub counts_own : ℕ → Part → Vote → Leading → Server → Stepped
 counts_own number p v l s =
-    goes_on (note.Waits l.leader.txn) (with_vote number v (asked_at number s.me l)) (recalls_for v s p) (after_own_vote l.leader.txn p v s)
+    goes_on (note.Waits l.leader.txn) (with_vote number v (asked_at number s.me l)) (path_for l.leader.mode l.leader.op s)
+    (recalls_for v s p) (after_own_vote l.leader.txn p v s)
 
 -- another server believes that the part is here: where it is not, this one's map tells where to ask
 abbrev pub comes_home : ℕ → Part → Leading → Server → Stepped
@@ -98,7 +98,8 @@ done_with x (y ∷ ys) s = record {
 -- only what is awaited is done
 abbrev pub done_of : Option Ending → Done → Server → Stepped
 done_of None m s = strange s
-done_of (Some x) m s = if awaits_done m.number x.awaits then done_with (without_done m.number x) (without_done m.number x).awaits s else strange s
+done_of (Some x) m s =
+    if awaits_done m.number x.awaits then done_with (without_done m.number x) (without_done m.number x).awaits s else strange s
 
 abbrev pub done_step : Done → Server → Stepped
 done_step m s = done_of (ending_of m.txn s.ending) m s

@@ -14,9 +14,11 @@ use Rattle.fs_field.specs.declared.lease_kind.LeaseKind.{LeaseKind}
 use Rattle.fs_field.specs.declared.lease_kind.LeaseKind.TheVariants.{Exclusive}
 use Rattle.fs_field.specs.Field.{file_of}
 use Rattle.fs_field.specs.declared.effect.Effect.{Effect}
+use Rattle.fs_field.specs.declared.path.PathAnswer.{PathAnswer}
 use Rattle.fs_field.specs.declared.path.PathAnswer.TheVariants as found
 use Rattle.fs_field.specs.declared.used.Part.{Part}
 use Rattle.fs_field.specs.declared.vote.Vote.TheVariants.{PathsOut}
+use Rattle.fs_model.specs.Asking.{home_of}
 use Rattle.fs_msg.specs.declared.answer.Answer.TheVariants as answer
 use Rattle.fs_msg.specs.declared.answer.Grant.{Grant}
 use Rattle.fs_msg.specs.declared.end.End.{End}
@@ -37,6 +39,7 @@ use Rattle.fs_server.specs.Asks.{Asking, answer_to, kind_for}
 use Rattle.fs_server.specs.Begins.{leader_with, parts_in, txn_of}
 use Rattle.fs_server.specs.Concludes.{admitted_of, end_note, end_of_decision}
 use Rattle.fs_server.specs.Follows.{path_recalls, paths_freed, recalls_for, to_server, vote_here}
+use Rattle.fs_server.specs.Leads.{mode_of, mode_over, takes_path}
 use Rattle.fs_server.specs.PathSteps.{has_child, is_asking, path_here, path_number, with_path}
 use Rattle.fs_server.specs.Server.{Stepped, is_mine, moved, to_session}
 use Rattle.fs_server.specs.declared.state.Server.{Server}
@@ -81,7 +84,20 @@ pub record FreshGiven (dir : List ℕ) (items : List (Field × LeaseKind)) (a : 
 abbrev pub FreshComes : List ℕ → List (Field × LeaseKind) → Asking → Type 0
 FreshComes dir items a = FreshGiven dir items a ⊎ (a.end ≡ end.NoIds dir)
 
--- ## An operation that is led, and all parts are here
+-- ## An operation that is led
+
+-- it is led here by what is known of that path, of the directory into which it comes
+pub record StandsOver (p : PathAnswer) (m : Lead) (s : Server) : Type 0 where
+  pub here : is_mine s (home_of m.op) ≡ true
+  pub takes : takes_path s m.op m.kind ≡ true
+  pub known : path_here s (home_of m.op) ≡ p
+
+-- the mode in which it begins here: by that path, where it stands on one
+pub data BeginsIn (m : Lead) (s : Server) : Mode2 → Type 0 where
+  without_path : is_mine s (home_of m.op) ≡ true → takes_path s m.op m.kind ≡ false → BeginsIn m s (mode_of m.op m.kind)
+  over : (files : List (List ℕ)) → StandsOver (found.Path files) m s → BeginsIn m s (mode_over files m.file)
+
+-- ## All its parts are here
 
 -- the server manages the file of each part
 abbrev pub has_all : Server → List Part → Bool

@@ -11,6 +11,7 @@ pub mod Reaps
 pub mod Ships
 pub mod Leads
 pub mod PathSteps
+pub mod PathsHere
 pub mod Step
 pub mod Plan
 pub mod Laws

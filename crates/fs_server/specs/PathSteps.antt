@@ -1,14 +1,14 @@
 -- Path leases between servers: a path is asked for, given out or denied, kept, asked back and given back.
-use Rattle.std.specs.Prelude.{ℕ, ◌+◌, ◌==◌, Bool, true, false, not, List, [], ◌∷◌, ◌++◌, length, map, Option, Some, None, option_map, if◌then◌else◌}
+use Rattle.std.specs.Prelude.{ℕ, ◌+◌, ◌==◌, Bool, true, false, List, [], ◌∷◌, ◌++◌, length, map, Option, Some, None, option_map, if◌then◌else◌}
 use Rattle.std.specs.FinMap.{get}
-use Rattle.std.specs.List.{filter, list_any}
+use Rattle.std.specs.List.{list_any}
 use Rattle.fs_ident.specs.Ident.{same}
 use Rattle.fs_ident.specs.declared.actor.PathNo.{PathNo}
 use Rattle.fs_ident.specs.declared.actor.Peer.{Peer}
 use Rattle.fs_ident.specs.declared.actor.TxnNo.{TxnNo}
 use Rattle.fs_field.specs.declared.path.PathAnswer.{PathAnswer}
 use Rattle.fs_field.specs.declared.path.PathAnswer.TheVariants as found
-use Rattle.fs_map.specs.Map.{longest, server_of}
+use Rattle.fs_map.specs.Map.{longest}
 use Rattle.fs_model.specs.Sound.{parent_of}
 use Rattle.fs_msg.specs.declared.msg.Msg.{Msg}
 use Rattle.fs_msg.specs.declared.peer_msg.PeerMsg.TheVariants as peer
@@ -17,7 +17,6 @@ use Rattle.fs_msg.specs.declared.server_note.ServerNote.TheVariants as note
 use Rattle.fs_path.specs.Leases.{PathLease}
 use Rattle.fs_path.specs.Returns.{after_give_back, after_recalled, after_released, give_back, recalled, releases, without_no}
 use Rattle.fs_path.specs.Tables.{frozen_for, holds, is_leaving, issued_to, with_held, with_issued}
-use Rattle.fs_path.specs.Walk.{path_of}
 use Rattle.fs_path.specs.declared.having.Having.TheVariants.{Held}
 use Rattle.fs_path.specs.declared.recalled.GiveBack.{GiveBack}
 use Rattle.fs_path.specs.declared.recalled.Recalled.{Recalled}
@@ -29,32 +28,13 @@ use Rattle.fs_record.specs.declared.led_end.Why.TheVariants as why
 pub use Rattle.fs_server.specs.Follows.{path_recalls}
 use Rattle.fs_server.specs.Follows.{to_server}
 use Rattle.fs_server.specs.Leads.{moved_why}
+pub use Rattle.fs_server.specs.PathsHere.{asks_nobody, asks_up, is_asking, path_here, with_asking, without_asking}
 use Rattle.fs_server.specs.Server.{Stepped, is_mine, strange}
 use Rattle.fs_server.specs.declared.state.Server.{Server}
-
--- the path of the file, as the server knows it
-abbrev pub path_here : Server → List ℕ → PathAnswer
-path_here s file = path_of s.paths s.records file
 
 -- this is noted and sent, and nothing admitted
 abbrev pub sends : ServerNote → List (Peer × Msg) → Server → Stepped
 sends n messages s = record { server = s; out = record { note = n; send = messages; admitted = [] } }
-
--- ## Requests
-
--- the path of the file was asked for, and no answer came yet
-abbrev pub is_asking : List ℕ → Server → Bool
-is_asking file s = list_any (λ f. same f file) s.asking
-
-abbrev pub with_asking : List ℕ → Server → Server
-with_asking file s = record s { asking = if is_asking file s then s.asking else s.asking ++ file ∷ [] }
-
-abbrev pub without_asking : List ℕ → Server → Server
-without_asking file s = record s { asking = filter (λ f. not (same f file)) s.asking }
-
--- the server of the directory, by the map, is asked for the path of the file, unless one was
-abbrev pub asks_up : List ℕ → List ℕ → Server → List (Peer × Msg)
-asks_up file dir s = if is_asking file s then [] else to_server (server_of s.map dir) (peer.PathAsk file dir) ∷ []
 
 -- ## A path is asked for
 
@@ -101,7 +81,8 @@ unless_kept from file dir None s = answers_path from file (path_here s dir) s
 abbrev pub path_ask_step : ℕ → List ℕ → List ℕ → Server → Stepped
 path_ask_step from file dir s =
     if is_mine s dir
-    then (if has_child s.records dir file then unless_kept from file dir (frozen_for file s.paths.frozen) s else denies from file why.NoChild s)
+    then (if has_child s.records dir file then unless_kept from file dir (frozen_for file s.paths.frozen) s
+    else denies from file why.NoChild s)
     else denies from file (moved_why (longest s.map dir)) s
 
 -- ## A path comes

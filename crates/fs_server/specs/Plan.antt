@@ -1,5 +1,5 @@
 -- What an event changes, once it is read what it comes to.
-use Rattle.std.specs.Prelude.{◌≡◌, ℕ, ◌+◌, ◌<◌, ◌≤◌, ◌^◌, true, List, [], ◌∷◌, length, Option, Some, None, IfSome, if◌then◌else◌}
+use Rattle.std.specs.Prelude.{◌≡◌, ℕ, ◌+◌, ◌<◌, ◌≤◌, ◌^◌, true, List, length, Option, Some, None, IfSome, if◌then◌else◌}
 use Rattle.std.specs.List.{list_all}
 use Rattle.std.specs.FinMap.{get}
 use Rattle.fs_ident.specs.declared.limits.TheConstants.{LATEST}
@@ -129,8 +129,9 @@ abbrev pub CanEnd : Then → Type 0
 CanEnd (Waits l) = Unit {0}
 CanEnd (Ends effects removals x keeps) = (list_all is_undoable effects ≡ true) × (list_all takes_away removals ≡ true)
 
--- a number is given for the first time; the effects of a log can be taken back where memory runs out, and those of a led operation and of a
--- decision but for removals, which come behind them and want none; what goes is a piece, and the records are those that it gives; a parcel fits
+-- a number is given for the first time; the effects of a log can be taken back where memory runs out, and those of a led
+-- operation and of a decision but for removals, which come behind them and want none; what goes is a piece, and the
+-- records are those that it gives; a parcel fits
 abbrev pub CanChange : Change → Server → Type 0
 CanChange (Grant rows gift) s = IsNewGift gift s.records
 CanChange (Admit effects) s = list_all is_undoable effects ≡ true

@@ -41,7 +41,8 @@ IsAskedBack l sent = In (to_server l.peer (peer.PathRecall l.no)) sent
 abbrev pub IsGivenBack : PathLease → List (Peer × Msg) → Type 0
 IsGivenBack l sent = In (to_server l.peer (peer.PathRelease l.no)) sent
 
--- the message asks a lease back that goes over what is to go, or rests on one that does; or it gives one back that does, and on which none rests
+-- the message asks a lease back that goes over what is to go, or rests on one that does; or it gives one back that does,
+-- and on which none rests
 abbrev pub IsReturn : List ℕ → Peer × Msg → Server → Type 0
 IsReturn prefix m s =
     ((l : PathLease) × In l s.paths.issued × (is_asked_in s.map s.me prefix s.paths.held l ≡ true) ×

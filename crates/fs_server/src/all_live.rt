@@ -40,7 +40,8 @@ impl<'a> Model for AllLive<'a> {
 
     ghost view = { λ l. in_one_list l.plain l.modes };
 
-    ghost invariant = { λ l. IsTable l.plain × (IsModeTable l.modes × AreRows (in_one_list l.plain l.modes)) };
+    ghost invariant = { λ l. IsTable l.plain ×
+        (IsModeTable l.modes × AreRows (in_one_list l.plain l.modes)) };
 }
 
 impl<'a> AllLive<'a> {

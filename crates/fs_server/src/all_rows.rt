@@ -39,7 +39,8 @@ impl Model for AllRows {
 
     ghost view = { λ r. in_one_list r.plain r.modes };
 
-    ghost invariant = { λ r. IsTable r.plain × (IsModeTable r.modes × AreRows (in_one_list r.plain r.modes)) };
+    ghost invariant = { λ r. IsTable r.plain ×
+        (IsModeTable r.modes × AreRows (in_one_list r.plain r.modes)) };
 }
 
 impl AllRows {
@@ -71,7 +72,7 @@ impl AllRows {
     }
 
     /// Drops the rows that are over at the reading `now`, as `lapse` does, and puts in these, in order. `Memory`
-    /// where memory is wanting; the rows are as they were then.
+    /// when out of memory; the rows are as they were then.
     pub(crate) fn grant_all(
         &mut self,
         alloc: Global,
@@ -128,7 +129,7 @@ impl AllRows {
     }
 
     /// Drops the rows that are over at the reading `now`, as `lapse` does, and puts all of the parcel, which fits among
-    /// the others, in its place at `me`. `Memory` where memory is wanting; all is as it was then.
+    /// the others, in its place at `me`. `Memory` when out of memory; all is as it was then.
     pub(crate) fn install(
         &mut self,
         alloc: Global,

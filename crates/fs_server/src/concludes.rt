@@ -4,7 +4,7 @@ ghost use Rattle.std.specs.List.{filter};
 ghost use Rattle.fs_msg.specs.declared.answer.Answer.TheVariants as answer;
 ghost use Rattle.fs_msg.specs.declared.peer_msg.PeerMsg.TheVariants as peer;
 ghost use Rattle.fs_record.specs.Applied.{is_undoable, takes_away};
-ghost use Rattle.fs_server.specs.Concludes.{admitted_of, concludes, end_note, end_of_decision, ends_now, goes_on, tells};
+ghost use Rattle.fs_server.specs.Concludes.{admitted_of, concludes, end_note, end_of_decision, ends_now, goes_on, path_for, tells};
 ghost use Rattle.fs_server.specs.Decided.{CanDecide, stepped_by};
 ghost use Rattle.fs_server.specs.Follows.{to_server};
 ghost use Rattle.fs_server.specs.declared.change.Change.TheVariants as change;
@@ -19,11 +19,12 @@ use crate::decide::Decided;
 use crate::follows::to_server;
 use crate::leads::led_told;
 use crate::out::ServerOut;
-use fs_field::{Effect, Use};
+use fs_field::{Effect, PathAnswer, Use};
 use fs_ident::{FileId, List, Memory, Peer, Twin, TxnNo, add_copy, copy_two};
+use fs_model::Op;
 use fs_msg::{Decide, Item, Msg, PeerMsg, ServerNote};
 use fs_record::{LedEnd, is_undoable};
-use fs_txn::{Decision, Ending, Leader, Leading, elsewhere, own_effects};
+use fs_txn::{Decision, Ending, Leader, Leading, Mode2, elsewhere, needs_path, own_effects};
 use std::alloc::Global;
 
 /// It is decided where all parts have voted. Where it begins a number of a transaction is used up; it keeps the rows of these leases, and
@@ -41,7 +42,8 @@ pub(crate) fn goes_on(
     requires ready { IsReady at.now }
     requires can { CanGoOn begins leading at.now }
     ensures step { IfOk result (λ d. stepped_by d at.now ≡
-        goes_on note leading send (keeping begins leading.leader.txn uses files at.now)) }
+        goes_on note leading (path_for leading.leader.mode leading.leader.op at.now) send
+        (keeping begins leading.leader.txn uses files at.now)) }
     ensures can { IfOk result (λ d. CanDecide d at.now) }
 {
     if leading.leader.is_full() {
@@ -79,7 +81,7 @@ pub(crate) fn waits(
     }
 }
 
-/// All parts have voted. Where it would stand on a path it was not begun, so none counts.
+/// All parts have voted.
 fn concludes(
     alloc: Global,
     at: &AtReading<'_>,
@@ -93,16 +95,34 @@ fn concludes(
     requires can { CanGoOn begins leading at.now }
     requires full { is_full leading.leader.votes ≡ true }
     ensures step { IfOk result (λ d. stepped_by d at.now ≡
-        concludes leading send (keeping begins leading.leader.txn uses files at.now)) }
+        concludes leading (path_for leading.leader.mode leading.leader.op at.now) send
+        (keeping begins leading.leader.txn uses files at.now)) }
     ensures can { IfOk result (λ d. CanDecide d at.now) }
 {
     let me = at.me();
-    let decision = leading.leader.decide(alloc, None)?;
+    let path = path_for(alloc, at, leading.leader.mode, &leading.leader.op)?;
+    let decision = leading.leader.decide(alloc, path.as_ref())?;
     let others = elsewhere(alloc, me, &leading)?;
     let d = ended(
         alloc, me, begins, leading, uses, files, send, decision, others,
     )?;
     Ok(d)
+}
+
+/// Where the decision stands on a path, that of the home as the event finds it, while its record is here.
+fn path_for(
+    alloc: Global,
+    at: &AtReading<'_>,
+    mode: Mode2,
+    op: &Op,
+) -> Result<Option<PathAnswer>, Memory>
+    ensures { IfOk result (λ path. path ≡ path_for mode op.now at.now) }
+{
+    let home = op.home();
+    if needs_path(mode, op) && at.records().get(home).is_some() {
+        return Ok(Some(at.paths().path_of(alloc, at.records(), home)?));
+    }
+    Ok(None)
 }
 
 /// It ends by this decision, of which these other parts, each with its server, are told.
@@ -119,7 +139,8 @@ fn ended(
 ) -> Result<Decided, Memory>
     requires { length leading.leader.votes < 2 ^ 8 }
     ensures { IfOk result (λ d. d ≡ record {
-      change = change.Lead begins leading.leader.txn uses files (ends_by me leading decision others);
+      change = change.Lead begins leading.leader.txn uses files
+          (ends_by me leading decision others);
       out = told_by decision others leading.leader send;
     }) }
 {

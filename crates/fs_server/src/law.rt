@@ -3,6 +3,7 @@ ghost use Rattle.std.specs.Prelude.{◌≡◌, ◌≤◌, ℕ, true, false, List
 ghost use Rattle.fs_field.specs.Table.{is_lease, is_lock_of, same_txn};
 ghost use Rattle.fs_field.specs.declared.field.Field.{Field};
 ghost use Rattle.fs_field.specs.declared.lease_kind.LeaseKind.{LeaseKind};
+ghost use Rattle.fs_field.specs.declared.path.PathAnswer.TheVariants as found;
 ghost use Rattle.fs_field.specs.declared.row.Row.{Row};
 ghost use Rattle.fs_field.specs.declared.used.Part.{Part};
 ghost use Rattle.fs_field.specs.declared.used.Use.{Use};
@@ -37,11 +38,12 @@ ghost use Rattle.fs_record.specs.declared.led_end.Why.TheVariants as why;
 ghost use Rattle.fs_record.specs.declared.led_end.Why.{Why};
 ghost use Rattle.fs_server.specs.Asks.{ask_from, asked_in};
 ghost use Rattle.fs_server.specs.Begins.{begins, leader_with, parts_in, txn_of};
+ghost use Rattle.fs_server.specs.Concludes.{path_for};
 ghost use Rattle.fs_server.specs.Counts.{vote_step};
 ghost use Rattle.fs_server.specs.Follows.{decide_step, path_in_the_way, prepare_step, to_server, vote_here};
-ghost use Rattle.fs_server.specs.Laws.{AreAskedBack, CanBeGiven, FreshComes, IsAskedFirst, IsGivenOut, IsSentOn, concluded, free_items, has_all, item_in, items_end, votes_here};
+ghost use Rattle.fs_server.specs.Laws.{AreAskedBack, BeginsIn, CanBeGiven, FreshComes, IsAskedFirst, IsGivenOut, IsSentOn, StandsOver, concluded, free_items, has_all, item_in, items_end, votes_here};
 ghost use Rattle.fs_server.specs.LeadingLaws.{HasNextTxn};
-ghost use Rattle.fs_server.specs.Leads.{is_led, lead_refusal, lead_step, mode_of, moved_why, refuses, wants_path};
+ghost use Rattle.fs_server.specs.Leads.{is_led, lead_step, mode_of, moved_why, refuses, takes_path, wants_path};
 ghost use Rattle.fs_server.specs.Moves.{move_step, peer_step};
 ghost use Rattle.fs_server.specs.ReturnLaws.{IsAskedBack, IsGivenBack, IsReturn, KeepsFiles, StaysForPaths, is_of_paths};
 ghost use Rattle.fs_server.specs.PathSteps.{asks_up, is_asking, path_ask_step, path_grant_step, path_no_step};
@@ -52,11 +54,12 @@ ghost use Rattle.fs_server.specs.Step.{step};
 ghost use Rattle.fs_server.specs.declared.event.ServerEvent.TheVariants.{Move};
 ghost use Rattle.fs_server.specs.declared.state.Server.{Server};
 ghost use Rattle.fs_txn.specs.Decided.{AreDecided};
-ghost use Rattle.fs_txn.specs.Deciding.{decision};
+ghost use Rattle.fs_txn.specs.Deciding.{decision, has_file};
 ghost use Rattle.fs_txn.specs.Preparing.{vote_on};
 ghost use Rattle.fs_txn.specs.Ready.{is_awaited, is_prepared};
 ghost use Rattle.fs_txn.specs.Stages.{is_yes};
 ghost use Rattle.fs_txn.specs.declared.mode.Mode2.{Mode2};
+ghost use Rattle.fs_txn.specs.declared.mode.Mode2.TheVariants.{Check, Freeze};
 
 /// The items of a question are given in order up to the first that the session could not have before it was given any: no
 /// lease that it is given keeps the next one from it.
@@ -77,17 +80,29 @@ pub fn an_identifier_comes_behind_all_items()
 {}
 
 /// An operation whose home another server manages is not led: the session is told where it is said to be, whatever else is wanting. At
-/// its home it is led, a delete of a directory too, but for one that would bring a directory into another one: its path is wanted.
+/// its home it is led, a delete of a directory too. One that brings a directory into another one, whose record is here, is led by the path
+/// of that one: where the directory is on it, it begins so that the path is looked at again when all have voted (Check), and where it is
+/// not, so that the directory is kept till then (Freeze). Where a path lease is wanted the session is told so, and it is asked for unless
+/// it was; and where a transaction keeps a file on the path, the session is told that.
 pub fn operations_are_led_at_home()
     ensures elsewhere { (by : Session) (m : Lead) (s : Server) → is_led m.op ≡ true →
         is_mine s (home_of m.op) ≡ false →
         lead_step by m s ≡ refuses by (moved_why (longest s.map (home_of m.op))) s }
-    ensures wanted { (by : Session) (m : Lead) (s : Server) → is_led m.op ≡ true →
-        is_mine s (home_of m.op) ≡ true → wants_path s m.op m.kind ≡ true →
-        lead_step by m s ≡ refuses by (why.Wanted (home_of m.op)) s }
     ensures begins { (by : Session) (m : Lead) (s : Server) → is_led m.op ≡ true →
-        is_mine s (home_of m.op) ≡ true → wants_path s m.op m.kind ≡ false →
+        is_mine s (home_of m.op) ≡ true → takes_path s m.op m.kind ≡ false →
         lead_step by m s ≡ begins (mode_of m.op m.kind) by m s }
+    ensures on { (by : Session) (m : Lead) (files : List (List ℕ)) (s : Server) →
+        is_led m.op ≡ true → StandsOver (found.Path files) m s → has_file files m.file ≡ true →
+        lead_step by m s ≡ begins Check by m s }
+    ensures off { (by : Session) (m : Lead) (files : List (List ℕ)) (s : Server) →
+        is_led m.op ≡ true → StandsOver (found.Path files) m s → has_file files m.file ≡ false →
+        lead_step by m s ≡ begins Freeze by m s }
+    ensures wanted { (by : Session) (m : Lead) (top dir : List ℕ) (s : Server) →
+        is_led m.op ≡ true → StandsOver (found.Wanted top dir) m s →
+        lead_step by m s ≡ wants_path by top dir s }
+    ensures frozen { (by : Session) (m : Lead) (file : List ℕ) (txn : TxnNo) (s : Server) →
+        is_led m.op ≡ true → StandsOver (found.Frozen file txn) m s →
+        lead_step by m s ≡ refuses by (why.Frozen file txn) s }
 {}
 
 /// Where nothing is admitted no file changes: not when a session asks the server to lead, and not when a vote comes.
@@ -99,15 +114,14 @@ pub fn what_is_not_admitted_changes_no_file()
 {}
 
 /// Where all files of the operation are managed here, all its parts vote at once by the rows and the path leases that stand, and the leader
-/// decides; but for its effects and the number of the transaction, for which no file is kept any more, the server is as it was. Path leases in
-/// the way of a part are asked back before the session is told how it ended.
+/// decides, by the path as it is then where it takes one; but for its effects and the number of the transaction, for which no file is kept
+/// any more, the server is as it was. Path leases in the way of a part are asked back before the session is told how it ended.
 pub fn parts_here_vote_at_once()
     ensures { (by : Session) (m : Lead) (mode : Mode2) (s : Server) → is_led m.op ≡ true →
-        mode_of m.op m.kind ≡ mode → lead_refusal s m ≡ None →
-        has_all s (parts_in mode m) ≡ true → HasNextTxn s →
+        BeginsIn m s mode → has_all s (parts_in mode m) ≡ true → HasNextTxn s →
         lead_step by m s ≡
-        concluded (decision (leader_with mode (txn_of s) by m (votes_here mode by m s)) None)
-        mode by m s }
+        concluded (decision (leader_with mode (txn_of s) by m (votes_here mode by m s))
+        (path_for mode m.op s)) mode by m s }
 {}
 
 /// A move with none of the refusals is made in its own event, where no path goes over what is to go: a parcel with all that is below the
@@ -265,12 +279,15 @@ pub fn paths_are_given_as_they_are_known()
 {}
 
 /// The path of a file is asked for once: a server that is asked for a path asks farther up for that of a file only where no such question
-/// stands, then one does, and it is one alone. A question that is sent on is the one that stands; a path that comes ends it, and so does a
+/// stands, then one does, and it is one alone; and so does one that is asked to lead an operation. A question that is sent on is the one that stands; a path that comes ends it, and so does a
 /// denial after which none is sent on.
 pub fn a_path_is_asked_for_once()
     ensures first { (s : Server) (from to : ℕ) (file dir top up : List ℕ) →
         In (to_server to (PathAsk top up)) (path_ask_step from file dir s).out.send →
         IsAskedFirst top s (path_ask_step from file dir s).server }
+    ensures leads { (s : Server) (by : Session) (m : Lead) (to : ℕ) (top up : List ℕ) →
+        In (to_server to (PathAsk top up)) (lead_step by m s).out.send →
+        IsAskedFirst top s (lead_step by m s).server }
     ensures one { (s : Server) (file dir : List ℕ) → length (asks_up file dir s) ≤ 1 }
     ensures on { (s : Server) (to : ℕ) (file asked up : List ℕ) (w : Why) →
         In (to_server to (PathAsk asked up)) (path_no_step file w s).out.send →

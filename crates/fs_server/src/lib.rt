@@ -17,6 +17,8 @@
 //! - where a directory goes, a part that keeps it where it is looks for the first path lease over it among those given out; where there is
 //!   one, all of them are looked for, with a message for each. The files that are kept while votes are awaited are put among all that are
 //!   kept, and these are scanned once where it is decided;
+//! - where a directory comes into another one, the path of that one is looked for as for a question, once when the transaction begins and
+//!   once where all have voted, and the directory is looked for on it;
 //! - a vote copies the transaction (its parts and their uses) and looks for it among all that are led (t), and so does a part that is
 //!   done; with the last one the rows are scanned once;
 //! - a part that another server asks for scans the rows for each of its uses up to the first whose row is gone, and is copied twice;
@@ -84,9 +86,10 @@ pub use law::{
     what_is_not_admitted_changes_no_file, what_is_not_yes_changes_nothing,
 };
 pub use leading_law::{
-    a_commit_splits_by_servers, a_decision_frees_the_files, a_rename_keeps_its_rows,
-    a_session_is_told_when_all_is_done, an_abort_does_nothing, an_own_yes_keeps_its_file,
-    each_part_is_told_once, what_nobody_awaits_is_strange,
+    a_commit_splits_by_servers, a_cycle_changes_no_file, a_decision_frees_the_files,
+    a_rename_keeps_its_rows, a_session_is_told_when_all_is_done, an_abort_does_nothing,
+    an_own_yes_keeps_its_file, each_part_is_told_once, the_path_is_taken_again,
+    what_nobody_awaits_is_strange,
 };
 pub use out::ServerOut;
 pub use plan::Plan;

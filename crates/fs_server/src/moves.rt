@@ -73,7 +73,8 @@ fn stays(
     why: MoveError,
 ) -> Result<Decided, Memory>
     requires { IsReady at.now }
-    ensures step { IfOk result (λ d. stepped_by d at.now ≡ move_at (Some why) prefix.now to at.now) }
+    ensures step { IfOk result (λ d.
+        stepped_by d at.now ≡ move_at (Some why) prefix.now to at.now) }
     ensures can { IfOk result (λ d. CanDecide d at.now) }
 {
     match why {

@@ -187,8 +187,8 @@ fn told_wanted(
     })
 }
 
-/// The server of the directory is asked for the path of the file, unless one was.
-fn ask_up(
+/// The server of the directory is asked for the path of the file, unless one was, or it is this server.
+pub(crate) fn ask_up(
     alloc: Global,
     at: &AtReading<'_>,
     file: &FileId,
@@ -197,7 +197,7 @@ fn ask_up(
 ) -> Result<(), Memory>
     ensures { OnOk result (send.new ≡ send.old ++ asks_up file.now dir at.now) }
 {
-    if at.is_asking(file) {
+    if at.is_asking(file) || at.is_mine(&dir) {
         return Ok(());
     }
     let (_, to) = at.map().owner(&dir);

@@ -56,7 +56,7 @@ fn ask(server: &mut Server, file: FileId) -> Result<(), Memory>
 }
 
 /// Whether the file is one of these.
-fn is_among(files: &[FileId], file: &FileId) -> bool
+pub(crate) fn is_among(files: &[FileId], file: &FileId) -> bool
     ensures { result ≡ list_any (λ f. same f file.now) files.now }
 {
     files.iter().any(|f| f == file)

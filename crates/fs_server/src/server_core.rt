@@ -98,7 +98,7 @@ impl ServerCore {
         Ok(Plan::new(now, change, out))
     }
 
-    /// Carries out a plan of this very server, all of it. `Memory` where memory is wanting; the server is as it was
+    /// Carries out a plan of this very server, all of it. `Memory` when out of memory; the server is as it was
     /// then.
     pub fn commit(&mut self, alloc: Global, plan: Plan) -> Result<(), Memory>
         requires { CanCommit plan self.old }

@@ -14,7 +14,7 @@ pub(crate) fn send_all<L: Link>(link: &mut L, due: &[(Option<Addr>, List<u8>)], 
     }
 }
 
-/// The same of one.
+/// Sends this packet if it is due to an address, and counts it if it fails or has no address.
 fn send_one<L: Link>(link: &mut L, to: Option<Addr>, bytes: &[u8], faults: &mut u64)
     ensures { IsSentOne (to, bytes.now) faults.old faults.new (L.calls link.old)
         (L.calls link.new) }
@@ -25,7 +25,7 @@ fn send_one<L: Link>(link: &mut L, to: Option<Addr>, bytes: &[u8], faults: &mut 
     }
 }
 
-/// The same of one to an address.
+/// Sends this packet to the address, and counts it if it fails.
 fn send_to<L: Link>(link: &mut L, to: Addr, bytes: &[u8], faults: &mut u64)
     ensures { IsSentOne (Some to, bytes.now) faults.old faults.new (L.calls link.old)
         (L.calls link.new) }

@@ -122,7 +122,8 @@ stage_in number None None = Unknown
 abbrev pub agreed_part : Leading → ℕ → Option Part → List Agreed
 agreed_part l number None = []
 agreed_part l number (Some p) =
-    let y : Agreed = record { key = record { txn = l.leader.txn; part = number }; wanted = record { session = l.leader.session; part = p } } in
+    let y : Agreed =
+    record { key = record { txn = l.leader.txn; part = number }; wanted = record { session = l.leader.session; part = p } } in
     y ∷ []
 
 -- the parts that said Yes here
@@ -132,4 +133,5 @@ said_by me l = flat_map (λ (x : ℕ × ℕ). agreed_part l x.0 (slice_get l.lea
 -- the transactions whose rows stay locked behind their commit
 abbrev pub kept_by : List Ending → List Kept
 kept_by ending =
-    map (λ (x : Ending). let k : Kept = record { txn = x.txn; session = x.session } in k) (filter (λ (x : Ending). keeps_till_done x.end) ending)
+    map (λ (x : Ending). let k : Kept = record { txn = x.txn; session = x.session } in k)
+    (filter (λ (x : Ending). keeps_till_done x.end) ending)

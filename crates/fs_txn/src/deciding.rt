@@ -88,7 +88,7 @@ fn agreed(alloc: Global, leader: &Leader, path: Option<&PathAnswer>) -> Result<D
 }
 
 /// Whether a directory comes into another one, and that could be below it.
-fn needs_path(mode: Mode2, op: &Op) -> bool
+pub fn needs_path(mode: Mode2, op: &Op) -> bool
     ensures { result ≡ needs_path mode op.now }
 {
     match mode {

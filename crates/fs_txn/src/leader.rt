@@ -30,7 +30,7 @@ pub struct Leader {
 }
 
 impl Leader {
-    /// A leader of these parts, of which none has voted. `Memory` where memory is wanting.
+    /// A leader of these parts, of which none has voted. `Memory` when out of memory.
     pub fn begin(
         alloc: Global,
         txn: TxnNo,
@@ -96,7 +96,7 @@ impl Leader {
     }
 
     /// Decides, once every part has voted (`is_full` is the test). `path` is the path of the destination as the leader knows it now, or none where that is
-    /// no living directory there; it counts where a directory comes into another one. `Memory` where memory is wanting.
+    /// no living directory there; it counts where a directory comes into another one. `Memory` when out of memory.
     pub fn decide(&self, alloc: Global, path: Option<&PathAnswer>) -> Result<Decision, Memory>
         requires { is_full self.now.votes ≡ true }
         ensures { IfOk result (λ d. d ≡ decision self.now (option_copied path.entry)) }

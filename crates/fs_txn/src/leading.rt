@@ -67,8 +67,8 @@ pub fn find_ending(ending: &[Ending], txn: TxnNo) -> Option<&Ending>
     ending.iter().find(|x| x.txn == txn)
 }
 
-/// Puts the transaction behind the others, in the place of any of its number, unless nothing of it is awaited. `Memory` where memory is
-/// wanting; the others are as they were then.
+/// Puts the transaction behind the others, in the place of any of its number, unless nothing of it is awaited.
+/// `Memory` when out of memory; the others are as they were then.
 pub fn keep_ending(ending: &mut Vec<Ending>, x: Ending) -> Result<(), Memory>
     ensures ok { OnOk result (ending.new.items ≡ with_ending x ending.old.items) }
     ensures err { OnErr result (ending.new.items ≡ ending.old.items) }
@@ -78,7 +78,7 @@ pub fn keep_ending(ending: &mut Vec<Ending>, x: Ending) -> Result<(), Memory>
     Ok(())
 }
 
-/// The same, where there is room for one more.
+/// Puts the transaction behind the others as `keep_ending` does; there is room for one more.
 pub fn put_ending(ending: &mut Vec<Ending>, x: Ending)
     requires { vec_len ending.old < vec_capacity ending.old }
     ensures { ending.new.items ≡ with_ending x ending.old.items }

@@ -15,7 +15,7 @@ mod ready;
 mod stages;
 mod tally;
 
-pub use deciding::reply_of;
+pub use deciding::{needs_path, reply_of};
 pub use decision::Decision;
 pub use law::{
     a_commit_has_every_yes, a_grant_is_true, a_part_votes_once, a_split_commit_is_one_step,

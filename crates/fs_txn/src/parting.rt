@@ -12,7 +12,7 @@ use std::alloc::Global;
 
 /// The parts of a rename or a delete: one for each file among its home, the directory that loses a name, and `file`, which
 /// moves or goes, in this order; each with the leases among `uses` on fields of its file. Where the mode is `Freeze` those of
-/// the latter two freeze `file`. `Memory` where memory is wanting.
+/// the latter two freeze `file`. `Memory` when out of memory.
 pub fn parts(
     alloc: Global,
     op: &Op,

@@ -16,8 +16,8 @@ use std::alloc::Global;
 /// Votes on a part of the session's transaction, and locks its rows exactly where the vote is Yes. In this order: `Moved` where
 /// the map gives the part's file to another server than `me`; `Ended` for the first lease without its row, with the reading `now`
 /// in milliseconds; `PathsOut` where the part freezes a file and a path over it is given out here; else Yes. `through` is the
-/// least path lease given out here whose path has the file that the part freezes. `Memory` where memory is wanting; the rows are
-/// as they were then.
+/// least path lease given out here whose path has the file that the part freezes. `Memory` when out of memory;
+/// the rows are as they were then.
 pub fn prepare(
     alloc: Global,
     rows: &mut Rows,

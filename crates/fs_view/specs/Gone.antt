@@ -32,17 +32,21 @@ IsUnread values field = ⊥
 
 -- no operation asks for them
 abbrev pub GoneIsUnread : Type 0
-GoneIsUnread = (values : Field → Value) (o : Op) (field : Field) (kind : LeaseKind) → IsUnread values field → In (Lease field kind) (walk (known_with values) always o).items → ⊥
+GoneIsUnread =
+    (values : Field → Value) (o : Op) (field : Field) (kind : LeaseKind) → IsUnread values field
+    → In (Lease field kind) (walk (known_with values) always o).items → ⊥
 
 -- whoever gets the reply that the values give, and does not make the file, leaves it gone
 abbrev pub GoneStays : Type 0
 GoneStays =
-    (by : Session) (file : List ℕ) (values : Field → Value) (o : Op) (r : Reply) → IsGone file values → (walk (known_with values) always o).reply ≡ Some r → list_any (makes file) (effects_of by o r) ≡ false
+    (by : Session) (file : List ℕ) (values : Field → Value) (o : Op) (r : Reply) → IsGone file values
+    → (walk (known_with values) always o).reply ≡ Some r → list_any (makes file) (effects_of by o r) ≡ false
     → IsGone file (λ field. value_after_all by field (values field) (effects_of by o r))
 
 -- where a walk misses nothing, values that agree with what it knows but for such fields give the same walk
 abbrev pub AlikeButGone : Type 0
 AlikeButGone =
     (known : Known) (given : Given) (values : Field → Value) (o : Op) → is_some (walk known given o).reply ≡ true
-    → ((field : Field) (kind : LeaseKind) → In (Lease field kind) (walk known given o).items → IsUnread values field ⊎ (Some (values field) ≡ known field kind))
+    → ((field : Field) (kind : LeaseKind) → In (Lease field kind) (walk known given o).items
+    → IsUnread values field ⊎ (Some (values field) ≡ known field kind))
     → walk (known_with values) always o ≡ walk known given o

@@ -59,7 +59,8 @@ have_room n leases = list_all (λ (k : ViewLease). nat_le (entries_of k.standing
 pub record IsBestOf (leases : List ViewLease) (now : ℕ) (field : Field) (kind : LeaseKind) (k : ViewLease) : Type 0 where
   pub among : In k leases
   pub serving : serves now field kind k.standing ≡ true
-  pub best : (other : ViewLease) → In other leases → serves now field kind other.standing ≡ true → is_better_than other.standing k.standing ≡ false
+  pub best : (other : ViewLease) → In other leases → serves now field kind other.standing ≡ true
+      → is_better_than other.standing k.standing ≡ false
 
 -- the lease that is used for the identifier is the best on the life of that file
 pub record IsUsedByBest (v : View) (now : ℕ) (dir id : List ℕ) : Type 0 where
@@ -78,11 +79,15 @@ pub record IsOffered (v : View) (now : ℕ) (dir id : List ℕ) : Type 0 where
 
 -- an entry makes the file of each lease that would offer an identifier
 abbrev pub NoneIsOffered : View → ℕ → List ℕ → Type 0
-NoneIsOffered v now dir = (k : ViewLease) → In k v.leases → k.below ≡ Some dir → serves now (Life (file_in k.standing)) Exclusive k.standing ≡ true → is_pending (file_in k.standing) v.pending ≡ true
+NoneIsOffered v now dir =
+    (k : ViewLease) → In k v.leases → k.below ≡ Some dir
+    → serves now (Life (file_in k.standing)) Exclusive k.standing ≡ true → is_pending (file_in k.standing) v.pending ≡ true
 
 -- the two spaces have the same values of these items, as the session sees them
 abbrev pub AgreeOn : NodeMap → NodeMap → Session → List Need → Type 0
-AgreeOn m n by items = (field : Field) (kind : LeaseKind) → In (Lease field kind) items → value_at by field (get n (file_of field)) ≡ value_at by field (get m (file_of field))
+AgreeOn m n by items =
+    (field : Field) (kind : LeaseKind) → In (Lease field kind) items
+    → value_at by field (get n (file_of field)) ≡ value_at by field (get m (file_of field))
 
 -- the identifier that a create names is of no file that lives
 abbrev pub IsUnborn : NodeMap → Op → Type 0

@@ -14,9 +14,11 @@ abbrev pub others_before : Known → Reply → List Mode → List ℕ → Bool �
 others_before known r [] file true rest = record { items = []; reply = Some r }
 others_before known r [] file false rest = rest
 others_before known r (m ∷ ms) file found rest =
-    behind (Lease (Other file m) Shared) (is_some (known (Other file m) Shared)) (others_before known r ms file (found || is_other_told (known (Other file m) Shared)) rest)
+    behind (Lease (Other file m) Shared) (is_some (known (Other file m) Shared))
+    (others_before known r ms file (found || is_other_told (known (Other file m) Shared)) rest)
 
 -- each of the modes as the session itself has it, and the walk
 abbrev pub selves_before : Known → List Mode → List ℕ → Walk → Walk
 selves_before known [] file rest = rest
-selves_before known (m ∷ ms) file rest = behind (Lease (SelfW file m) Exclusive) (is_some (known (SelfW file m) Exclusive)) (selves_before known ms file rest)
+selves_before known (m ∷ ms) file rest =
+    behind (Lease (SelfW file m) Exclusive) (is_some (known (SelfW file m) Exclusive)) (selves_before known ms file rest)

@@ -122,15 +122,20 @@ modes_off own h = without (all_modes own) (all_modes (without_handle own h))
 
 abbrev pub open_free : Bool → Handles → List ℕ → Modes → Script
 open_free true own file modes = answer reply.Sharing
-open_free false own file modes = ask_others reply.Sharing (modes_listed (opposing modes)) file false (ask_selves (modes_listed (modes_on own modes)) file reply.Opened)
+open_free false own file modes =
+    ask_others reply.Sharing (modes_listed (opposing modes)) file false (ask_selves (modes_listed (modes_on own modes)) file reply.Opened)
 
 abbrev pub open_with : Option Handles → List ℕ → ℕ → Modes → Script
 open_with None file h modes = ask_others reply.Sharing (modes_listed (opposing modes)) file false (answer reply.Opened)
-open_with (Some own) file h modes = if is_some (modes_under own h) then answer reply.HandleUsed else open_free (own_conflicts own modes) own file modes
+open_with (Some own) file h modes =
+    if is_some (modes_under own h) then answer reply.HandleUsed
+    else open_free (own_conflicts own modes) own file modes
 
 abbrev pub close_with : Option Handles → List ℕ → ℕ → Script
 close_with None file h = answer reply.Closed
-close_with (Some own) file h = if is_some (modes_under own h) then ask_selves (modes_listed (modes_off own h)) file reply.Closed else answer reply.NoHandle
+close_with (Some own) file h =
+    if is_some (modes_under own h) then ask_selves (modes_listed (modes_off own h)) file reply.Closed
+    else answer reply.NoHandle
 
 -- the reply where the handle is not there or may not write
 abbrev pub no_write : Option Modes → Option Reply
@@ -185,7 +190,8 @@ abbrev pub accesses : List Mode
 accesses = AccR ∷ AccW ∷ AccD ∷ []
 
 abbrev pub ask_unused : List ℕ → Script
-ask_unused file = ask (Own file) Exclusive (λ own. unless (in_use (own_told own)) (ask_others reply.InUse accesses file false (answer reply.Deleted)))
+ask_unused file =
+    ask (Own file) Exclusive (λ own. unless (in_use (own_told own)) (ask_others reply.InUse accesses file false (answer reply.Deleted)))
 
 abbrev pub ask_empty : List ℕ → Script
 ask_empty file = ask (Names file) Shared (λ names. unless (not_empty (names_told names)) (ask_unused file))
@@ -210,28 +216,38 @@ denied None = None
 denied (Some own) = if own_denies_delete own then Some reply.Sharing else None
 
 abbrev pub ask_movable : List ℕ → Script
-ask_movable file = ask (Own file) Exclusive (λ own. unless (denied (own_told own)) (ask_others reply.Sharing (DenyD ∷ []) file false (answer reply.Renamed)))
+ask_movable file =
+    ask (Own file) Exclusive (λ own. unless (denied (own_told own))
+    (ask_others reply.Sharing (DenyD ∷ []) file false (answer reply.Renamed)))
 
 -- the life of each file is asked for once, and that of both directories stands before
 abbrev pub ask_moved_file : List ℕ → List ℕ → List ℕ → Script
-ask_moved_file sdir ddir file = if same file sdir || same file ddir then ask_movable file else ask (Life file) Shared (λ life. ask_movable file)
+ask_moved_file sdir ddir file =
+    if same file sdir || same file ddir then ask_movable file
+    else ask (Life file) Shared (λ life. ask_movable file)
 
 abbrev pub ask_moved : List ℕ → List ℕ → Option (Option (List ℕ)) → Script
 ask_moved sdir ddir (Some (Some file)) = ask_moved_file sdir ddir file
 ask_moved sdir ddir v = answer reply.Renamed
 
 abbrev pub ask_new_place : List ℕ → List ℕ → List ℕ → Option (Option (List ℕ)) → Script
-ask_new_place sdir ddir dname moved = ask (Child ddir dname) Exclusive (λ child. unless (taken_name (child_told child)) (ask_moved sdir ddir moved))
+ask_new_place sdir ddir dname moved =
+    ask (Child ddir dname) Exclusive (λ child. unless (taken_name (child_told child)) (ask_moved sdir ddir moved))
 
 -- a file that stays at its place asks for nothing more
 abbrev pub ask_unless_there : List ℕ → List ℕ → List ℕ → List ℕ → Option (Option (List ℕ)) → Script
-ask_unless_there sdir sname ddir dname moved = if same sdir ddir && same sname dname then answer reply.Renamed else ask_new_place sdir ddir dname moved
+ask_unless_there sdir sname ddir dname moved =
+    if same sdir ddir && same sname dname then answer reply.Renamed
+    else ask_new_place sdir ddir dname moved
 
 abbrev pub ask_old_place : List ℕ → List ℕ → List ℕ → List ℕ → Script
-ask_old_place sdir sname ddir dname = ask (Child sdir sname) Exclusive (λ child. unless (no_name (child_told child)) (ask_unless_there sdir sname ddir dname (child_told child)))
+ask_old_place sdir sname ddir dname =
+    ask (Child sdir sname) Exclusive (λ child. unless (no_name (child_told child))
+    (ask_unless_there sdir sname ddir dname (child_told child)))
 
 abbrev pub ask_other_dir : List ℕ → List ℕ → List ℕ → List ℕ → Script
-ask_other_dir sdir sname ddir dname = ask (Life ddir) Shared (λ life. unless (no_dir_to (life_told life)) (ask_old_place sdir sname ddir dname))
+ask_other_dir sdir sname ddir dname =
+    ask (Life ddir) Shared (λ life. unless (no_dir_to (life_told life)) (ask_old_place sdir sname ddir dname))
 
 abbrev pub ask_rename : List ℕ → List ℕ → List ℕ → List ℕ → Script
 ask_rename sdir sname ddir dname = if same sdir ddir then ask_old_place sdir sname ddir dname else ask_other_dir sdir sname ddir dname
@@ -248,5 +264,6 @@ script_of (op.OpenFile file h modes) = ask (Life file) Shared (λ life. unless (
 script_of (op.Close file h) = ask (Own file) Exclusive (λ own. close_with (own_told own) file h)
 script_of (op.Set file h size stamp) = ask_set file h
 script_of (op.Delete dir name) = ask (Life dir) Shared (λ life. unless (no_dir (life_told life)) (ask_delete dir name))
-script_of (op.Rename sdir sname ddir dname) = ask (Life sdir) Shared (λ life. unless (no_dir (life_told life)) (ask_rename sdir sname ddir dname))
+script_of (op.Rename sdir sname ddir dname) =
+    ask (Life sdir) Shared (λ life. unless (no_dir (life_told life)) (ask_rename sdir sname ddir dname))
 script_of (op.Reap file session) = answer reply.Reaped

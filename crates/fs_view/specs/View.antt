@@ -56,7 +56,8 @@ value_after_log s field v (es ∷ log) = value_after_log s field (value_after_al
 -- the lease that is taken for the field: the best so far, or a better one behind it
 abbrev pub taken_from : ℕ → Field → LeaseKind → Option ViewLease → List ViewLease → Option ViewLease
 taken_from now field kind best [] = best
-taken_from now field kind best (k ∷ ks) = taken_from now field kind (if serves now field kind k.standing && is_better k best then Some k else best) ks
+taken_from now field kind best (k ∷ ks) =
+    taken_from now field kind (if serves now field kind k.standing && is_better k best then Some k else best) ks
 
 unfoldable pub taken : View → ℕ → Field → LeaseKind → Option ViewLease
 taken v now field kind = taken_from now field kind None v.leases
@@ -126,11 +127,25 @@ abbrev pub lapsed_at : ℕ → View → View
 lapsed_at now v = record v { leases = filter (is_live now) v.leases }
 
 abbrev pub with_grant : LeaseNo → Field → LeaseKind → ℕ → Value → Option (List ℕ) → View → View
-with_grant number field kind until value below v = record v { leases = v.leases ++ record { standing = Held (record { no = number; field = field; kind = kind; until = until }); base = value; recalled = false; below = below } ∷ [] }
+with_grant number field kind until value below v =
+    record v {
+      leases = v.leases ++ record {
+        standing = Held (record { no = number; field = field; kind = kind; until = until });
+        base = value;
+        recalled = false;
+        below = below;
+      } ∷ [];
+    }
 
 -- a lease that its server gave is held
 abbrev pub kept_new : NewLease → ViewLease
-kept_new l = record { standing = Held (record { no = l.no; field = l.field; kind = l.kind; until = l.until }); base = l.value; recalled = false; below = l.below }
+kept_new l =
+    record {
+      standing = Held (record { no = l.no; field = l.field; kind = l.kind; until = l.until });
+      base = l.value;
+      recalled = false;
+      below = l.below;
+    }
 
 abbrev pub with_new : NewLease → View → View
 with_new l v = with_grant l.no l.field l.kind l.until l.value l.below v
@@ -143,7 +158,8 @@ with_grants (l ∷ ls) v = with_grants ls (with_new l v)
 -- each has a value of its field, and a number that no lease has and none before it
 abbrev pub can_grant_all : List NewLease → List ViewLease → Bool
 can_grant_all [] leases = true
-can_grant_all (l ∷ ls) leases = (is_value_of l.field l.value && not (list_any (has_number l.no) leases)) && can_grant_all ls (leases ++ kept_new l ∷ [])
+can_grant_all (l ∷ ls) leases =
+    (is_value_of l.field l.value && not (list_any (has_number l.no) leases)) && can_grant_all ls (leases ++ kept_new l ∷ [])
 
 -- the lease of this number is changed, and no other
 abbrev pub at_number : LeaseNo → (ViewLease → ViewLease) → List ViewLease → List ViewLease

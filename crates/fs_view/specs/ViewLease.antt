@@ -57,7 +57,14 @@ entries_of (Leaving l) = 0
 
 -- the lease as others see it
 abbrev pub seen_of : ViewLease → Seen
-seen_of k = record { no = number_of k.standing; file = file_in k.standing; until = option_map (λ (l : Lease). l.until) (lease_of k.standing); entries = entries_of k.standing; recalled = k.recalled }
+seen_of k =
+    record {
+      no = number_of k.standing;
+      file = file_in k.standing;
+      until = option_map (λ (l : Lease). l.until) (lease_of k.standing);
+      entries = entries_of k.standing;
+      recalled = k.recalled;
+    }
 
 -- ## What it serves for
 
@@ -77,7 +84,9 @@ serves now field kind (Leaving l) = false
 
 -- of two leases the one that ends later is taken, and of two that end together the one with the lesser number
 abbrev pub is_better_than : Standing → Standing → Bool
-is_better_than s other = nat_lt (until_of other) (until_of s) || ((until_of s == until_of other) && no_before (number_of s) (number_of other))
+is_better_than s other =
+    nat_lt (until_of other) (until_of s)
+    || ((until_of s == until_of other) && no_before (number_of s) (number_of other))
 
 abbrev pub is_better : ViewLease → Option ViewLease → Bool
 is_better k None = true

@@ -29,7 +29,8 @@ behind need false w = record { items = need ∷ w.items; reply = None }
 
 abbrev pub walk_along : Known → Given → Script → Walk
 walk_along known given (answer r) = record { items = []; reply = Some r }
-walk_along known given (ask field kind go) = behind (Lease field kind) (is_some (known field kind)) (walk_along known given (go (known field kind)))
+walk_along known given (ask field kind go) =
+    behind (Lease field kind) (is_some (known field kind)) (walk_along known given (go (known field kind)))
 walk_along known given (give dir go) = behind (Fresh dir) (given dir) (walk_along known given go)
 
 abbrev pub walk : Known → Given → Op → Walk

@@ -12,7 +12,7 @@ use fs_ident::{List, Memory, Session, Twin};
 use std::alloc::Global;
 
 /// The base values follow the effects, and an identifier is no longer for a new file once that is made. `Memory`
-/// where memory is wanting; the leases are as they were then.
+/// when out of memory; the leases are as they were then.
 pub fn admit(
     leases: &mut Vec<ViewLease>,
     alloc: Global,

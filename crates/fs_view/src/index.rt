@@ -45,7 +45,7 @@ impl FieldIndex {
         }
     }
 
-    /// Adds the number on the field. It is not whole any more where memory is wanting.
+    /// Adds the number on the field. It is not whole any more when out of memory.
     pub(crate) fn add(&mut self, alloc: Global, field: &Field, no: LeaseNo)
         ensures { IsNoted no field.now self.old self.new }
     {

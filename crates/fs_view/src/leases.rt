@@ -41,7 +41,7 @@ impl Leases {
     }
 }
 
-/// Makes room for so many leases more. `Memory` where memory is wanting; the leases are as they were.
+/// Makes room for so many leases more. `Memory` when out of memory; the leases are as they were.
 pub(crate) fn reserve(leases: &mut Leases, more: usize) -> Result<(), Memory>
     requires { AreFound leases.old }
     ensures same { leases.new.kept.items ≡ leases.old.kept.items }

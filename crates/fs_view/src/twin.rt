@@ -8,7 +8,7 @@ use crate::view_lease::{Standing, ViewLease};
 use fs_ident::{Memory, Twin};
 use std::alloc::Global;
 
-/// The same leases again.
+/// Copies the leases.
 pub(crate) fn copy(alloc: Global, leases: &Leases) -> Result<Leases, Memory>
     requires { AreFound leases.now }
     ensures same { IfOk result (λ twin. twin.kept.items ≡ leases.now.kept.items) }
@@ -82,7 +82,7 @@ fn copy_all(alloc: Global, leases: &[ViewLease]) -> Result<Vec<ViewLease>, Memor
     Ok(twin)
 }
 
-/// Adds a copy of the lease, or spends it, with the core that was to have it, where memory is wanting.
+/// Adds a copy of the lease, or spends it, with the core that was to have it, when out of memory.
 fn add_copy(alloc: Global, twin: &mut Vec<ViewLease>, kept: &ViewLease) -> Result<(), Memory>
     ensures { OnOk result (twin.new.items ≡ twin.old.items ++ kept.now ∷ []) }
 {

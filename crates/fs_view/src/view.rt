@@ -143,7 +143,7 @@ impl View {
     }
 
     /// Adds a lease behind the others, held, with the value that its field has; for an identifier of a new file also
-    /// the directory that it is for. `Memory` where memory is wanting; nothing changed then.
+    /// the directory that it is for. `Memory` when out of memory; nothing changed then.
     pub fn grant(
         &mut self,
         alloc: Global,
@@ -177,8 +177,8 @@ impl View {
         Ok(())
     }
 
-    /// What is over at the reading is given up, and these leases are added behind the others, held. `Memory` where
-    /// memory is wanting; nothing changed then.
+    /// What is over at the reading is given up, and these leases are added behind the others, held. `Memory` when
+    /// out of memory; nothing changed then.
     pub fn grant_all(
         &mut self,
         alloc: Global,
@@ -229,7 +229,7 @@ impl View {
         unpin_all(&mut self.leases, uses.as_slice());
     }
 
-    /// Adds what one more entry of the log will do. `Memory` where memory is wanting; nothing changed then.
+    /// Adds what one more entry of the log will do. `Memory` when out of memory; nothing changed then.
     pub fn append(&mut self, effects: List<Effect>) -> Result<(), Memory>
         ensures ok { OnOk result (self.new ≡ with_entry effects self.old) }
         ensures err { OnErr result (self.new ≡ self.old) }
@@ -237,8 +237,8 @@ impl View {
         self.pending.push(effects)
     }
 
-    /// The first entry of the log is known to be admitted: what it did joins the base values. `Memory` where memory
-    /// is wanting; nothing changed then.
+    /// The first entry of the log is known to be admitted: what it did joins the base values. `Memory` when out of
+    /// memory; nothing changed then.
     pub fn admit_first(&mut self, alloc: Global) -> Result<(), Memory>
         requires { 0 < length self.old.pending }
         ensures ok { OnOk result (self.new ≡ with_first_admitted self.old) }
@@ -248,7 +248,7 @@ impl View {
     }
 
     /// The first so many entries of the log are known to be admitted: what they did joins the base values. `Memory`
-    /// where memory is wanting; nothing changed then.
+    /// when out of memory; nothing changed then.
     pub fn admit_front(&mut self, alloc: Global, count: usize) -> Result<(), Memory>
         ensures ok { OnOk result (self.new ≡ admitted_front count self.old) }
         ensures err { OnErr result (self.new ≡ self.old) }
@@ -259,7 +259,7 @@ impl View {
         Ok(())
     }
 
-    /// These effects are known to be admitted: they join the base values. `Memory` where memory is wanting; nothing
+    /// These effects are known to be admitted: they join the base values. `Memory` when out of memory; nothing
     /// changed then.
     pub fn admit(&mut self, alloc: Global, effects: &List<Effect>) -> Result<(), Memory>
         ensures ok { OnOk result (self.new ≡ with_admitted effects.now self.old) }

@@ -80,7 +80,7 @@ pub(crate) fn mark_each(links: &mut [(Peer, Link)])
     }
 }
 
-/// The same on one link.
+/// Counts on this link what is due as sent.
 pub(crate) fn mark_one(entry: &mut (Peer, Link))
     ensures { entry.new ≡ (entry.old.0, link_sent entry.old.1) }
 {

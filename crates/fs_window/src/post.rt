@@ -115,7 +115,7 @@ impl Post {
         }
     }
 
-    /// The same as `push`, and keeps in `undo` how to undo it: no segment is copied.
+    /// Pushes a message as `push` does, and keeps in `undo` how to undo it: no segment is copied.
     pub fn push_with_undo(
         &mut self,
         alloc: Global,
@@ -136,7 +136,7 @@ impl Post {
         Ok(())
     }
 
-    /// The same as `accept`, and keeps in `undo` how to undo it: of what waits nothing is copied.
+    /// Takes a packet as `accept` does, and keeps in `undo` how to undo it: of what waits nothing is copied.
     pub fn accept_with_undo(
         &mut self,
         alloc: Global,

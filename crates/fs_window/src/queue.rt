@@ -150,7 +150,7 @@ pub(crate) fn forget<T: Drop>(queue: &mut LinkedList<T>, count: u64)
     }
 }
 
-/// The same values.
+/// Copies the values, in their order.
 pub(crate) fn copies<T: Twin + Drop>(
     alloc: Global,
     queue: &LinkedList<T>,

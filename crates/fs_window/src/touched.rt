@@ -105,7 +105,7 @@ pub(crate) fn mark_touched(links: &mut Vec<(Peer, Link)>, touched: &mut Touched)
     touched.places.truncate(0);
 }
 
-/// The same, and they are kept as touched.
+/// Counts on each touched link what is due as sent; the links stay noted as touched.
 fn mark_due(links: &mut Vec<(Peer, Link)>, touched: &Touched)
     requires { OthersAreSettled touched.now links.old.items }
     ensures { links.new.items ≡ map (λ e. (e.0, link_sent e.1)) links.old.items }
@@ -117,7 +117,7 @@ fn mark_due(links: &mut Vec<(Peer, Link)>, touched: &Touched)
     }
 }
 
-/// The same where the places of those that were touched are known.
+/// Counts on the links at these places what is due as sent.
 fn mark_places(links: &mut [(Peer, Link)], places: &[usize])
     requires { RestIs IsSettled 0 places.now links.old }
     ensures { links.new ≡ map (λ e. (e.0, link_sent e.1)) links.old }

@@ -87,7 +87,7 @@ pub(crate) fn push_step(
     }
 }
 
-/// The same where the link stands at the place.
+/// Pushes a message to an actor whose link stands at the place, and tells how to undo it.
 fn push_at(
     alloc: Global,
     links: &mut List<(Peer, Link)>,
@@ -152,7 +152,7 @@ pub(crate) fn accept_step(
     }
 }
 
-/// The same where the link stands at the place.
+/// Takes a packet of an actor whose link stands at the place, and tells how to undo it.
 fn accept_at(
     alloc: Global,
     links: &mut List<(Peer, Link)>,
@@ -175,7 +175,7 @@ fn accept_at(
     entry.1.accept_with_undo(alloc, p)
 }
 
-/// Keeps how to undo the step, or undoes it where memory is wanting.
+/// Keeps how to undo the step, or undoes it when out of memory.
 pub(crate) fn record_step(
     links: &mut List<(Peer, Link)>,
     step: Step,
@@ -225,7 +225,7 @@ fn restore(links: &mut List<(Peer, Link)>, step: Step)
     }
 }
 
-/// The same for a link that stands at the place and was there before.
+/// Undoes a step on a link that stands at the place and was there before.
 fn restore_at(links: &mut List<(Peer, Link)>, at: usize, peer: Peer, before: Before)
     requires { IsPlaceOf links.old peer at }
     ensures { (l : TheLink) → find peer_cmp peer links.old ≡ Some l →

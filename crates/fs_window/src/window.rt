@@ -110,7 +110,7 @@ impl Window {
         Ok(())
     }
 
-    /// The same, and tells how to undo it.
+    /// Takes segments to be sent as `push_all` does, and tells how to undo it.
     pub(crate) fn push_with_undo(
         &mut self,
         alloc: Global,
@@ -179,7 +179,7 @@ impl Window {
         Ok(())
     }
 
-    /// The same, and tells how to undo it.
+    /// Takes a packet as `take` does, and tells how to undo it.
     pub(crate) fn take_with_undo(&mut self, alloc: Global, p: &Packet) -> Result<Was, Memory>
         ensures was { IfOk result (λ was. end_before was self.new ≡ self.old) }
         ensures state { OnOk result (self.new ≡ after_accept self.old p.now) }

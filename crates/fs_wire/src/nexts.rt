@@ -11,7 +11,7 @@ use crate::numbers::choice_of;
 use crate::wire::Wire;
 use std::alloc::{AllocError, Global};
 
-/// Adds a next number at the end. Where memory is wanting, a part of it may stand there.
+/// Adds a next number at the end. When out of memory, a part of it may stand there.
 pub fn put_next(next: u64, out: &mut Vec<u8>) -> Result<(), AllocError>
     ensures text { OnOk result (out.new.items ≡ out.old.items ++ eight next) }
     ensures fits { OnOk result (is_readable_next next ≡ true → FitsNext next) }

@@ -19,7 +19,7 @@ pub trait Wire: Drop {
     /// Whether it fits, where its type does not say so.
     ghost readable: { Self → Bool };
 
-    /// Adds the spelling at the end. Where memory is wanting, a part of it may stand there.
+    /// Adds the spelling at the end. When out of memory, a part of it may stand there.
     fn put(&self, out: &mut Vec<u8>) -> Result<(), AllocError>
         ensures text { OnOk result (out.new.items ≡ out.old.items ++ text self.now) }
         ensures fits { OnOk result (readable self.now ≡ true → fits self.now) };

@@ -47,7 +47,8 @@ addr_in text =
 -- `s0=127.0.0.1:7000`
 abbrev pub place_in : List ℕ → Option Place
 place_in word =
-    option_and_then (λ (p : List ℕ × List ℕ). option_and_then (λ who. option_map (λ at. (who, at)) (addr_in p.1)) (actor_in p.0)) (parted 61 word)
+    option_and_then (λ (p : List ℕ × List ℕ).
+    option_and_then (λ who. option_map (λ at. (who, at)) (addr_in p.1)) (actor_in p.0)) (parted 61 word)
 
 -- ## Several words
 
@@ -76,7 +77,9 @@ may_follow servers before (Some p) = is_among servers p.0 && list_all (is_apart 
 -- how many of the words at the front are each a place that may stand behind those before
 abbrev pub places_at_front : ℕ → List (List ℕ) → List (List ℕ) → ℕ
 places_at_front servers before [] = 0
-places_at_front servers before (w ∷ ws) = if may_follow servers before (place_in w) then places_at_front servers (before ++ w ∷ []) ws + 1 else 0
+places_at_front servers before (w ∷ ws) =
+    if may_follow servers before (place_in w) then places_at_front servers (before ++ w ∷ []) ws + 1
+    else 0
 
 -- where the actor stands, if all of the words are such places and one is its own
 abbrev pub own_stand : ℕ → Peer → List (List ℕ) → Option Addr

@@ -30,7 +30,7 @@ pub(crate) fn number_in(most: u64, text: &[u8]) -> Option<u64>
     }
 }
 
-/// The same, also where zeros stand in front.
+/// The number that these digits tell, where it is at most `most`; zeros may stand in front.
 fn with_digits(most: u64, digits: &[u8]) -> Option<u64>
     ensures number { result ≡ with_digits most 0 digits.now }
     ensures most { IfSome result (λ n. n ≤ most) }

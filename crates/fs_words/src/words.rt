@@ -51,7 +51,7 @@ fn generate_of(rest: &[String]) -> Result<Command, u64>
     }
 }
 
-/// The same, where the number was read, if it is one.
+/// A run of what is made from this number, where there is one and no other word stands behind.
 fn made_of(number: Option<u64>, behind: &[String]) -> Result<Command, u64>
     ensures asked { result ≡ made_words number (map string_bytes behind.now) }
     ensures fits { IfOk result FitsCommand }

@@ -36,13 +36,14 @@ anyhow_laws = record {
   rises = anyhow_later;
   client = λ skew greatest now c by h e can within. client_anyhow skew greatest now c by h e can;
   first = first_anyhow;
-  clock = λ skew greatest s c i h. all_clock skew greatest s (told_as h.journal h.replied c) i h.holds;
-  asks = λ skew greatest s c by entries i there h. all_asks skew greatest s (told_as h.journal h.replied c) by entries i there h.holds;
-  owned = λ skew greatest s c x i h. all_owned skew greatest s (told_as h.journal h.replied c) x i h.holds;
-  exchanges = λ skew greatest s c x i h. let q = all_exchanges skew greatest s (told_as h.journal h.replied c) x i h.holds in
+  clock = λ skew greatest s c i h. all_clock skew greatest s (told_as h.journal h.replied c) i h.whole.holds;
+  asks = λ skew greatest s c by entries i there h.
+      all_asks skew greatest s (told_as h.journal h.replied c) by entries i there h.whole.holds;
+  owned = λ skew greatest s c x i h. all_owned skew greatest s (told_as h.journal h.replied c) x i h.whole.holds;
+  exchanges = λ skew greatest s c x i h. let q = all_exchanges skew greatest s (told_as h.journal h.replied c) x i h.whole.holds in
       record { one = q.one; leads = q.leads; addressed = q.addressed };
-  leaders = λ skew greatest k s c at h. all_leaders skew greatest k s (told_as h.journal h.replied c) at h.holds;
-  led = λ skew greatest c h. let l = h.holds.led in record {
+  leaders = λ skew greatest k s c at h. all_leaders skew greatest k s (told_as h.journal h.replied c) at h.whole.holds;
+  led = λ skew greatest c h. let l = h.whole.holds.led in record {
     parts = l.parts;
     stages = l.stages;
     leading = l.leading;

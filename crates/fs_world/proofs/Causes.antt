@@ -12,6 +12,7 @@ use Rattle.fs_ident.specs.declared.actor.Session.{Session}
 use Rattle.fs_ident.specs.declared.actor.TxnNo.{TxnNo}
 use Rattle.fs_ident.proofs.Standing.{In-got}
 use Rattle.fs_field.specs.declared.row.Row.{Row}
+use Rattle.fs_field.specs.declared.path.PathAnswer.{PathAnswer}
 use Rattle.fs_field.specs.declared.used.Part.{Part}
 use Rattle.fs_field.specs.Table.{has_no}
 use Rattle.fs_window.specs.Post.{Links, post_accepted, post_due}
@@ -51,7 +52,6 @@ use Rattle.fs_txn.specs.Leading.{elsewhere, end_of_decision, without_done}
 use Rattle.fs_txn.specs.declared.decision.Decision.{Decision}
 use Rattle.fs_txn.specs.declared.leading.Ending.{Ending}
 use Rattle.fs_txn.specs.declared.leading.Leading.{Leading}
-use Rattle.fs_txn.specs.declared.mode.Mode2.{Mode2}
 use Rattle.fs_view.specs.declared.view_lease.ViewLease.{ViewLease}
 use Rattle.fs_client.specs.Acts.{act_plan}
 use Rattle.fs_actor.specs.Hearing.{heard_in}
@@ -59,11 +59,12 @@ use Rattle.fs_client.specs.Client.{begun}
 use Rattle.fs_client.specs.Turns.{ending, idle, release_some, renew_some, returned, ship_some, turn_free, turn_on, turn_plan}
 use Rattle.fs_client.specs.declared.state.Client.{Client as ClientState}
 use Rattle.fs_client.proofs.Refused.{act_over, acts_stay, turns_stay}
-use Rattle.fs_server.proofs.Leading.{LeadEnds, begun as txn_begun, lead_ends, put_off, unled}
+use Rattle.fs_server.proofs.Leading.{LeadEnds, begun as txn_begun, kept as path_kept, lead_ends, put_off, unled, wanted}
 use Rattle.fs_server.specs.Begins.{Round, first_round, leader_with, part_round, parts_in, round_of, rounds, txn_of}
-use Rattle.fs_server.specs.Concludes.{ends_now, goes_on, tells}
+use Rattle.fs_server.specs.Concludes.{ends_now, goes_on, path_for, tells}
 use Rattle.fs_server.specs.Counts.{after_own_vote, ask_for, asked_at, done_step, done_with, vote_step, with_vote}
-use Rattle.fs_server.specs.Leads.{lead_step, mode_of}
+use Rattle.fs_server.specs.Leads.{lead_step}
+use Rattle.fs_server.specs.PathsHere.{asks_up}
 use Rattle.fs_server.specs.Asks.{asked_in, recall_of, recalls_at}
 use Rattle.fs_server.specs.Follows.{applies, is_prepared, recalls_for as paths_back, to_server, vote_here, votes}
 use Rattle.fs_server.specs.Moves.{fits_here, move_at, parcel_at, peer_step}
@@ -77,7 +78,7 @@ use Rattle.fs_server.specs.declared.event.ServerEvent.TheVariants.{Move as TheMo
 use Rattle.fs_server.specs.declared.state.Server.{Server as Core}
 use Rattle.fs_serial.specs.Cluster.{is_with, without_first}
 use Rattle.fs_serial.specs.declared.in_flight.InFlight.{InFlight}
-use Rattle.fs_serial.proofs.Moves.PathSteps.{ArePathSends, each_message, refusal_here, refused}
+use Rattle.fs_serial.proofs.Moves.PathSteps.{ArePathSends, each_message, refusal_here, refused, up_sent}
 use Rattle.fs_serial.proofs.Transactions.Recalled.{recalls_on_paths}
 use Rattle.fs_serial.proofs.Transactions.RoundsLocks.{round_by}
 use Rattle.fs_schedule.specs.declared.event.What.{What}
@@ -204,24 +205,24 @@ ends_given : (now : List Said) (out : List (ℕ × ℕ)) (by : Session) (e : Led
 ends_given now [] by e = (tt, tt)
 ends_given now (x ∷ xs) by e = tt
 
-goes_given : (now : List Said) (n : ServerNote) (l : Leading) (sent : List (Peer × Msg)) (s : Core) → AreGiven now sent
-    → SendsGiven now (goes_on n l sent s)
-goes_given now n l sent s h =
-    let d : Decision = decision l.leader None in
+goes_given : (now : List Said) (n : ServerNote) (l : Leading) (path : Option PathAnswer) (sent : List (Peer × Msg)) (s : Core)
+    → AreGiven now sent → SendsGiven now (goes_on n l path sent s)
+goes_given now n l path sent s h =
+    let d : Decision = decision l.leader path in
     let out : List (ℕ × ℕ) = elsewhere s.me l in
     let told = tells l.leader.txn d out in
     let ends = ends_now out l.leader.session (end_of_decision d) in
-    each_goes (SendsGiven now) n l sent s
+    each_goes (SendsGiven now) n l path sent s
     (given_append now sent (told ++ ends) h
     (given_append now told ends (tells_given now l.leader.txn d out) (ends_given now out l.leader.session (end_of_decision d)))) h
 
 vote_given : (now : List Said) (m : Voted) (s : Core) → SendsGiven now (vote_step m s)
 vote_given now m s = each_vote (SendsGiven now) m s tt
     (λ l p to f. tt)
-    (λ l v f. goes_given now (server.Waits l.leader.txn) (with_vote m.number v l) [] s tt)
+    (λ l v f. goes_given now (server.Waits l.leader.txn) (with_vote m.number v l) (path_for l.leader.mode l.leader.op s) [] s tt)
     (λ l p f. let v : AVote = vote_here s l.leader.session p in
-    goes_given now (server.Waits l.leader.txn) (with_vote m.number v (asked_at m.number s.me l)) (paths_back v s p)
-    (after_own_vote l.leader.txn p v s) (back_given now v s p))
+    goes_given now (server.Waits l.leader.txn) (with_vote m.number v (asked_at m.number s.me l)) (path_for l.leader.mode l.leader.op s)
+    (paths_back v s p) (after_own_vote l.leader.txn p v s) (back_given now v s p))
 
 left_given : (now : List Said) (x : Ending) (left : List (ℕ × ℕ)) (s : Core) → SendsGiven now (done_with x left s)
 left_given now x [] s = (tt, tt)
@@ -259,12 +260,13 @@ lead_given : (k : ℕ) (by : Session) (m : ToLead) (s : Core) (from : Option Pee
     → AreGiven (says from k x.out.note) x.out.send
 lead_given k by m s from x (unled l) = tt
 lead_given k by m s from x (put_off w l r) = (tt, tt)
-lead_given k by m s from x (txn_begun l r) =
+lead_given k by m s from x (wanted top dir l o) = (tt, paths_given (says from k x.out.note) (asks_up top dir s) (up_sent top dir s))
+lead_given k by m s from x (path_kept file txn l o) = (tt, tt)
+lead_given k by m s from x (txn_begun mode l b) =
     let now = says from k x.out.note in
-    let mode : Mode2 = mode_of m.op m.kind in
     let g : Round = round_of mode by m s in
-    goes_given now (server.Prepares (txn_of s)) (record { leader = leader_with mode (txn_of s) by m g.votes; at = g.at }) g.send g.server
-    (rounds_given now (txn_of s) 0 by (parts_in mode m) (first_round s) tt)
+    goes_given now (server.Prepares (txn_of s)) (record { leader = leader_with mode (txn_of s) by m g.votes; at = g.at })
+    (path_for mode m.op s) g.send g.server (rounds_given now (txn_of s) 0 by (parts_in mode m) (first_round s) tt)
 
 message_given : (k : ℕ) (by : Session) (m : ClientMsg) (s : Core) (now : ℕ) (from : Option Peer) → from ≡ Some (Client by)
     → AreGiven (says from k (core_steps s now (FromClient by m)).out.note) (core_steps s now (FromClient by m)).out.send

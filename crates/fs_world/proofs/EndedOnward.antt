@@ -148,7 +148,7 @@ module _ (laws : SerialLaws) (count skew greatest : ℕ) (tale : Tale) (p : Part
         let clocked = clock (timed laws) count skew greatest tale (parts_at p k x) h now k x.server here in
         ended_then by number end reading
         (comes_still skew (max greatest now) now k x.server seen here (omega (arith, clocked))
-        (laws.rises skew greatest (max greatest now) seen (omega arith) h.cluster.all) i q.flies.message
+        (laws.rises skew greatest (max greatest now) seen (omega arith) h.cluster.all).holds i q.flies.message
         (flying_there (timed laws) count skew greatest tale (parts_at p k x) h now k x.server here i q.flies q.first) by number end reading
         (whatever_told (λ y. []) h.replied (parts_at p k x) by number end reading w));
   }

@@ -1,10 +1,11 @@
 -- A lease that had ended where an operation is led has no row after what another server sent either.
 use Rattle.std.proofs.Common.{◌≡◌, ℕ, ◌≤◌, max, true, false, List, [], ◌∷◌, ◌++◌, cond, refl, ap, ap₂, ◌∙◌, subst, arith}
-use Rattle.std.specs.Prelude.{None, Some, slice_get}
+use Rattle.std.specs.Prelude.{Option, None, Some, slice_get}
 use Rattle.fs_ident.specs.declared.actor.LeaseNo.{LeaseNo}
 use Rattle.fs_ident.specs.declared.actor.Peer.{Peer}
 use Rattle.fs_ident.specs.declared.actor.Session.{Session}
 use Rattle.fs_ident.specs.declared.actor.TxnNo.{TxnNo}
+use Rattle.fs_field.specs.declared.path.PathAnswer.{PathAnswer}
 use Rattle.fs_field.specs.declared.vote.Vote.{Vote as AVote}
 use Rattle.fs_msg.specs.declared.msg.Msg.{Msg}
 use Rattle.fs_msg.specs.declared.peer_msg.PeerMsg.{PeerMsg}
@@ -21,7 +22,7 @@ use Rattle.fs_txn.specs.declared.decision.Decision.{Decision}
 use Rattle.fs_txn.specs.declared.leading.Ending.{Ending}
 use Rattle.fs_txn.specs.declared.leading.Leading.{Leading}
 use Rattle.fs_client.specs.declared.state.Client.{Client}
-use Rattle.fs_server.specs.Concludes.{ends_now, goes_on, keeps_for, tells}
+use Rattle.fs_server.specs.Concludes.{ends_now, goes_on, keeps_for, path_for, tells}
 use Rattle.fs_server.specs.Counts.{after_own_vote, asked_at, done_with, with_vote}
 use Rattle.fs_server.specs.Follows.{applies, is_prepared, ready_of, recalls_for, vote_here, votes}
 use Rattle.fs_server.specs.Moves.{peer_step}
@@ -36,14 +37,14 @@ use Rattle.fs_serial.specs.EndedLeases.{WasEnded}
 use Rattle.fs_serial.specs.Seen.{ClusterHolds}
 use Rattle.fs_serial.proofs.Lists.SetAt.{get_here, set_twice}
 use Rattle.fs_serial.proofs.Moves.Parcels.{parcels-append}
+use Rattle.fs_serial.proofs.Lists.Traffic.{sent_append}
 use Rattle.fs_serial.proofs.Returns.Lapsing.{begun_at, keep, there_begun}
 use Rattle.fs_serial.proofs.Returns.Lapsing as lapsing
 use Rattle.fs_serial.proofs.Transactions.OtherSteps.{begins_stands}
 use Rattle.fs_serial.proofs.Transactions.OthersKeep.{sent_client, taken_client}
-use Rattle.fs_serial.proofs.Transactions.PlacesAfter.{AreRelocked, names_there, relocked_not, relocked_then, unlocked_so, unlocked_unless}
+use Rattle.fs_serial.proofs.Transactions.PlacesAfter.{AreRelocked, relocked_not, relocked_then, unlocked_so, unlocked_unless}
 use Rattle.fs_serial.proofs.Transactions.PlacesAfter.{voted_so, word_taken}
 use Rattle.fs_serial.proofs.Transactions.Recalled.{recalls_hand_nothing}
-use Rattle.fs_serial.proofs.Transactions.RoundsLocks.{sent_append}
 use Rattle.fs_serial.proofs.WholeRuns.EndedLed.{parcels_then}
 use Rattle.fs_serial.proofs.WholeRuns.EndedOthers.{other_later}
 use Rattle.fs_serial.proofs.WholeRuns.EndedStay.{RowsLater, counts_rise, ended_stays, fewer_later, stepped_later}
@@ -74,13 +75,13 @@ none_more k sent more one other =
     ∙ ap₂ (λ xs ys. xs ++ ys) one other
 
 -- it waits or is decided, after these locks
-goes_locks : (k : ℕ) (n : ServerNote) (l : Leading) (sent : List (Peer × Msg)) (s t : Server) → AreRelocked s.rows t.rows
-    → t.given ≡ s.given → parcels_of (in_flight_from k sent) ≡ [] → OnlyLocks k s (goes_on n l sent t)
-goes_locks k n l sent s t q given none =
-    let d : Decision = decision l.leader None in
+goes_locks : (k : ℕ) (n : ServerNote) (l : Leading) (path : Option PathAnswer) (sent : List (Peer × Msg)) (s t : Server)
+    → AreRelocked s.rows t.rows → t.given ≡ s.given → parcels_of (in_flight_from k sent) ≡ [] → OnlyLocks k s (goes_on n l path sent t)
+goes_locks k n l path sent s t q given none =
+    let d : Decision = decision l.leader path in
     let out : List (ℕ × ℕ) = elsewhere t.me l in
     let e : LedEnd = end_of_decision d in
-    each_goes (OnlyLocks k s) n l sent t
+    each_goes (OnlyLocks k s) n l path sent t
     (record {
       rows = relocked_then s.rows t.rows _ q (unlocked_unless (keeps_for d out) l.leader.txn t.rows);
       given = given;
@@ -127,10 +128,12 @@ module _ (skew greatest k : ℕ) (c : Cluster) (s : Server) (at : slice_get c.se
   comes_later (Vote m) there = locks_later (Vote m) refl there
       (each_vote (OnlyLocks k s) m s (strange_locks k s)
       (λ l p to f. record { rows = relocked_not s.rows; given = refl; none = refl })
-      (λ l v f. goes_locks k (server_note.Waits l.leader.txn) (with_vote m.number v l) [] s s (relocked_not s.rows) refl refl)
+      (λ l v f. goes_locks k (server_note.Waits l.leader.txn) (with_vote m.number v l) (path_for l.leader.mode l.leader.op s) [] s s
+      (relocked_not s.rows) refl refl)
       (λ l p f. let v : AVote = vote_here s l.leader.session p in
-      goes_locks k (server_note.Waits l.leader.txn) (with_vote m.number v (asked_at m.number s.me l)) (recalls_for v s p) s
-      (after_own_vote l.leader.txn p v s) (voted_so v l.leader.txn p.uses s.rows) refl (recalls_hand_nothing k v s p)))
+      goes_locks k (server_note.Waits l.leader.txn) (with_vote m.number v (asked_at m.number s.me l))
+      (path_for l.leader.mode l.leader.op s) (recalls_for v s p) s (after_own_vote l.leader.txn p v s)
+      (voted_so v l.leader.txn p.uses s.rows) refl (recalls_hand_nothing k v s p)))
   comes_later (Decide m) there = locks_later (Decide m) refl there
       (elim (is_prepared m.txn m.number s.prepared) as (λ b. OnlyLocks k s (cond b (applies from m s) (strange s))) [
         | true ↦ applied_locks k from m s
@@ -138,7 +141,7 @@ module _ (skew greatest k : ℕ) (c : Cluster) (s : Server) (at : slice_get c.se
       ])
   comes_later (Done m) there = locks_later (Done m) refl there
       (each_done (OnlyLocks k s) m s (strange_locks k s) (λ x left f. done_locks k (without_done m.number x) left s))
-  comes_later m there = absurd (names_there k from c m h.places there)
+  comes_later m there = other_later skew greatest k c s at h (FromPeer from m) there refl
 
 -- what had ended had so after it too
 pub comes_still : (skew greatest now k : ℕ) (s : Server) (c : Cluster) → slice_get c.servers k ≡ Some s → max s.last now ≤ greatest

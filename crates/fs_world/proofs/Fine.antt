@@ -39,6 +39,7 @@ use Rattle.fs_client.specs.declared.plan.Plan.{Plan}
 use Rattle.fs_client.specs.declared.state.Client.{Client as ClientState}
 use Rattle.fs_parcel.specs.declared.error.MoveError.{MoveError}
 use Rattle.fs_record.specs.declared.parcel.Parcel.{Parcel}
+use Rattle.fs_field.specs.declared.path.PathAnswer.{PathAnswer}
 use Rattle.fs_field.specs.declared.vote.Vote.{Vote as AVote}
 use Rattle.fs_msg.specs.declared.decide.Decide.{Decide as ToDecide}
 use Rattle.fs_msg.specs.declared.done.Done.{Done as ToldDone}
@@ -53,16 +54,16 @@ use Rattle.fs_txn.specs.declared.decision.Decision.TheVariants.{Commit, Abort}
 use Rattle.fs_txn.specs.declared.leader.Leader.{Leader}
 use Rattle.fs_txn.specs.declared.leading.Ending.{Ending}
 use Rattle.fs_txn.specs.declared.leading.Leading.{Leading}
-use Rattle.fs_txn.specs.declared.mode.Mode2.{Mode2}
 use Rattle.fs_msg.specs.declared.prepare.Prepare.{Prepare as ToPrepare}
 use Rattle.fs_msg.specs.declared.peer_msg.PeerMsg.{PeerMsg}
 use Rattle.fs_msg.specs.declared.peer_msg.PeerMsg.TheVariants.{Parcel as OfParcel, Prepare, Vote, Decide, Done}
-use Rattle.fs_server.proofs.Leading.{LeadEnds, begun as txn_begun, lead_ends, put_off as server_puts_off, unled}
+use Rattle.fs_server.proofs.Leading.{LeadEnds, begun as txn_begun, kept as path_kept, lead_ends, put_off as server_puts_off, unled}
+use Rattle.fs_server.proofs.Leading.{wanted as path_wanted}
 use Rattle.fs_server.specs.Begins.{Round, leader_with, round_of, txn_of}
-use Rattle.fs_server.specs.Concludes.{admitted_of, goes_on}
+use Rattle.fs_server.specs.Concludes.{admitted_of, goes_on, path_for}
 use Rattle.fs_server.specs.Counts.{after_own_vote, asked_at, done_step, done_with, vote_step, with_vote}
 use Rattle.fs_server.proofs.OneByOne.{each_entry, each_lapsed}
-use Rattle.fs_server.specs.Leads.{is_led, lead_step, mode_of}
+use Rattle.fs_server.specs.Leads.{is_led, lead_step}
 use Rattle.fs_server.specs.Follows.{applies, is_prepared, recalls_for, vote_here, votes}
 use Rattle.fs_server.specs.Moves.{fits_here, move_at, parcel_at, peer_step}
 use Rattle.fs_server.specs.Reaps.{lapsed_in, reap_from, reap_item, turn_over}
@@ -249,17 +250,17 @@ decided_fine (Abort e) l h = tt
 abbrev AdmitsFine : Stepped → Type 0
 AdmitsFine x = AllFine x.out.admitted
 
-goes_fine : (n : ServerNote) (l : Leading) (sent : List (Peer × Msg)) (s : ServerState) → AsksAccess l.leader.op
-    → AdmitsFine (goes_on n l sent s)
-goes_fine n l sent s h = each_goes AdmitsFine n l sent s (decided_fine (decision l.leader None) l.leader h) tt
+goes_fine : (n : ServerNote) (l : Leading) (path : Option PathAnswer) (sent : List (Peer × Msg)) (s : ServerState) → AsksAccess l.leader.op
+    → AdmitsFine (goes_on n l path sent s)
+goes_fine n l path sent s h = each_goes AdmitsFine n l path sent s (decided_fine (decision l.leader path) l.leader h) tt
 
 vote_fine : (m : Voted) (s : ServerState) → LeadersAsk s.leading → AdmitsFine (vote_step m s)
 vote_fine m s led = each_vote AdmitsFine m s tt
     (λ l p to f. tt)
-    (λ l v f. goes_fine (server_note.Waits l.leader.txn) (with_vote m.number v l) [] s (among l f))
+    (λ l v f. goes_fine (server_note.Waits l.leader.txn) (with_vote m.number v l) (path_for l.leader.mode l.leader.op s) [] s (among l f))
     (λ l p f. let v : AVote = vote_here s l.leader.session p in
-    goes_fine (server_note.Waits l.leader.txn) (with_vote m.number v (asked_at m.number s.me l)) (recalls_for v s p)
-    (after_own_vote l.leader.txn p v s) (among l f))
+    goes_fine (server_note.Waits l.leader.txn) (with_vote m.number v (asked_at m.number s.me l)) (path_for l.leader.mode l.leader.op s)
+    (recalls_for v s p) (after_own_vote l.leader.txn p v s) (among l f))
   where
     among : (l : Leading) → leading_of m.txn s.leading ≡ Some l → AsksAccess l.leader.op
     among l f = led l (found (λ (x : Leading). same_txn x.leader.txn m.txn) s.leading l f).0
@@ -274,11 +275,12 @@ done_fine m s = each_done AdmitsFine m s tt (λ x left f. left_fine (without_don
 lead_fine : (by : Session) (m : ToLead) (s : ServerState) (x : Stepped) → LeadEnds by m s x → AllFine x.out.admitted
 lead_fine by m s x (unled l) = tt
 lead_fine by m s x (server_puts_off w l r) = tt
-lead_fine by m s x (txn_begun l r) =
-    let mode : Mode2 = mode_of m.op m.kind in
+lead_fine by m s x (path_wanted top dir l o) = tt
+lead_fine by m s x (path_kept file txn l o) = tt
+lead_fine by m s x (txn_begun mode l b) =
     let g : Round = round_of mode by m s in
-    goes_fine (server_note.Prepares (txn_of s)) (record { leader = leader_with mode (txn_of s) by m g.votes; at = g.at }) g.send g.server
-    (led_asks m.op l)
+    goes_fine (server_note.Prepares (txn_of s)) (record { leader = leader_with mode (txn_of s) by m g.votes; at = g.at })
+    (path_for mode m.op s) g.send g.server (led_asks m.op l)
 
 -- ## Each message of a session
 

@@ -2,6 +2,7 @@
 use Rattle.std.proofs.Common.{◌≡◌, ◌==◌, ℕ, true, false, List, cond, refl}
 use Rattle.std.specs.Prelude.{Option, Some, None, slice_get}
 use Rattle.fs_ident.specs.declared.actor.Peer.{Peer}
+use Rattle.fs_field.specs.declared.path.PathAnswer.{PathAnswer}
 use Rattle.fs_field.specs.declared.used.Part.{Part}
 use Rattle.fs_field.specs.declared.vote.Vote.{Vote}
 use Rattle.fs_field.specs.declared.vote.Vote.TheVariants.{Yes, Ended, Moved, PathsOut}
@@ -21,9 +22,9 @@ use Rattle.fs_server.specs.Server.{Stepped, is_mine, strange}
 use Rattle.fs_server.specs.declared.state.Server.{Server}
 
 -- it is decided, or waits
-pub each_goes : (P : Stepped → Type 0) (n : ServerNote) (l : Leading) (sent : List (Peer × Msg)) (s : Server)
-    → P (concludes l sent s) → P (waits n l sent s) → P (goes_on n l sent s)
-each_goes P n l sent s h g = elim (is_full l.leader.votes) as (λ b. P (cond b (concludes l sent s) (waits n l sent s))) [
+pub each_goes : (P : Stepped → Type 0) (n : ServerNote) (l : Leading) (path : Option PathAnswer) (sent : List (Peer × Msg)) (s : Server)
+    → P (concludes l path sent s) → P (waits n l sent s) → P (goes_on n l path sent s)
+each_goes P n l path sent s h g = elim (is_full l.leader.votes) as (λ b. P (cond b (concludes l path sent s) (waits n l sent s))) [
   | true ↦ h
   | false ↦ g
 ]

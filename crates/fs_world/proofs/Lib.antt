@@ -15,6 +15,7 @@ pub mod NamedMaps
 pub mod NamedClients
 pub mod NamedLeading
 pub mod NamedSends
+pub mod NamedPaths
 pub mod NamedTransactions
 pub mod NamedServers
 pub mod LinkedLists

@@ -40,7 +40,7 @@ pub served_then : (servers : ℕ) (a b : SessionStates) (k : ℕ) (s : Core) →
     → IsServed servers a k s → IsServed servers b k s
 served_then servers a b k s g h = record {
   me = h.me;
-  pathless = h.pathless;
+  peers = h.peers;
   named = h.named;
   records = h.records;
   handles = h.handles;

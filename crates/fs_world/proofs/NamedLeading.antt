@@ -13,6 +13,8 @@ use Rattle.fs_ident.proofs.Standing.{In-filter, In-got, In-map}
 use Rattle.fs_field.specs.After.{changed_file}
 use Rattle.fs_field.specs.declared.effect.Effect.{Effect}
 use Rattle.fs_field.specs.declared.effect.Effect.TheVariants.{SetChild, SetParent, NewNode, RemoveNode, AddHandle, RemoveHandle, SetInfo}
+use Rattle.fs_field.specs.declared.path.PathAnswer.{PathAnswer}
+use Rattle.fs_field.specs.declared.path.PathAnswer.TheVariants as path
 use Rattle.fs_field.specs.declared.row.Row.{Row}
 use Rattle.fs_field.specs.declared.used.Part.{Part}
 use Rattle.fs_field.specs.declared.vote.Vote.{Vote}
@@ -27,15 +29,18 @@ use Rattle.fs_record.specs.declared.led_end.LedEnd.{LedEnd}
 use Rattle.fs_serial.proofs.Lists.SetAt.{In_set}
 use Rattle.fs_serial.proofs.Transactions.PlacesAfter.{AreRelocked}
 use Rattle.fs_serial.proofs.Transactions.Tables.{in_with_ending, in_with_leading, in_without_leading}
-use Rattle.fs_txn.specs.Deciding.{agreed, by_path, commit, decision, effects_on, end_of_vote, first_end, needs_path, or_else, reply_of}
-use Rattle.fs_txn.specs.Deciding.{told_effects, unless_ended}
+use Rattle.fs_txn.specs.Deciding.{agreed, by_files, by_path, commit, decision, effects_on, end_of_vote, first_end, has_file, needs_path}
+use Rattle.fs_txn.specs.Deciding.{or_else, reply_of, told_effects, unless_ended}
 use Rattle.fs_txn.specs.Leading.{elsewhere, end_of_decision, own_effects, own_parts, said_yes, with_ending, with_leading, without_leading}
 use Rattle.fs_txn.specs.Leading.{yes_from, yes_parts}
 use Rattle.fs_txn.specs.Votes.{Votes, votes_after}
+use Rattle.fs_txn.proofs.Parted.{decision_is}
 use Rattle.fs_txn.specs.declared.decision.Decision.{Decision}
 use Rattle.fs_txn.specs.declared.leader.Leader.{Leader}
 use Rattle.fs_txn.specs.declared.leading.Ending.{Ending}
 use Rattle.fs_txn.specs.declared.leading.Leading.{Leading}
+use Rattle.fs_txn.specs.declared.mode.Mode2.{Mode2}
+use Rattle.fs_txn.specs.declared.mode.Mode2.TheVariants.{Check, Freeze, Plain}
 use Rattle.fs_wire.specs.Readable.{is_readable_effect}
 use Rattle.fs_serial.specs.Places.{VoteNames}
 use Rattle.fs_world.specs.Linked.{IsEndingOf, IsLeadingOf, IsNamedLed}
@@ -105,16 +110,8 @@ commit_tells l r part = at (slice_get parts part) (λ es e. In-got parts part es
         subst (AllByRecursion IsTellable) (sym q.1.1)
         (each_left IsTellable (λ e. same (changed_file e) q.0.file) (led_effects l.op l.file r) (led_tellable l.op l.file r))
 
-pub decision_tells : (l : Leader) → TellsOpen (decision l None)
-decision_tells l = unless (first_end l.votes) (agreed l None) (either (needs_path l.mode l.op))
-  where
-    either : (b : Bool) → TellsOpen (cond b (by_path l None) (commit l (reply_of l.op)))
-    either true part = tt
-    either false part = commit_tells l (reply_of l.op) part
-
-    unless : (o : Option LedEnd) (d : Decision) → TellsOpen d → TellsOpen (unless_ended o d)
-    unless None d h part = h part
-    unless (Some e) d h part = tt
+pub decision_tells : (l : Leader) (p : Option PathAnswer) → TellsOpen (decision l p)
+decision_tells l p = decision_is l TellsOpen (λ e part. tt) (commit_tells l) p
 
 -- the effects on the parts that are here
 pub own_tellable : (me : ℕ) (l : Leading) (d : Decision) → TellsOpen d → AllByRecursion IsTellable (own_effects me l d)
@@ -147,15 +144,33 @@ votes_end servers (None ∷ votes) h = tt
 votes_end servers (Some v ∷ votes) h =
     or_ends servers (end_of_vote v) (first_end votes) (vote_ends servers v (h v (inl refl))) (votes_end servers votes (λ w i. h w (inr i)))
 
-pub decision_ends : (servers : ℕ) (l : Leader) → AreNamedVotes servers l.votes → IsNamedLed servers (end_of_decision (decision l None))
-decision_ends servers l h = unless (first_end l.votes) (agreed l None) (votes_end servers l.votes h) (either (needs_path l.mode l.op))
+-- what is committed, or put off by a path, names no server
+abbrev EndsNamed : ℕ → Decision → Type 0
+EndsNamed servers d = IsNamedLed servers (end_of_decision d)
+
+files_end : (servers : ℕ) (l : Leader) (mode : Mode2) (on : Bool) → EndsNamed servers (by_files l mode on)
+files_end servers l Check true = tt
+files_end servers l Check false = tt
+files_end servers l Plain true = tt
+files_end servers l Plain false = tt
+files_end servers l Freeze true = tt
+files_end servers l Freeze false = tt
+
+path_ends : (servers : ℕ) (l : Leader) (p : Option PathAnswer) → EndsNamed servers (by_path l p)
+path_ends servers l None = tt
+path_ends servers l (Some (path.Path files)) = files_end servers l l.mode (has_file files l.file)
+path_ends servers l (Some (path.Wanted file parent)) = tt
+path_ends servers l (Some (path.Frozen file txn)) = tt
+
+pub decision_ends : (servers : ℕ) (l : Leader) (p : Option PathAnswer) → AreNamedVotes servers l.votes
+    → IsNamedLed servers (end_of_decision (decision l p))
+decision_ends servers l p h = unless (first_end l.votes) (agreed l p) (votes_end servers l.votes h) (either (needs_path l.mode l.op))
   where
-    either : (b : Bool) → IsNamedLed servers (end_of_decision (cond b (by_path l None) (commit l (reply_of l.op))))
-    either true = tt
+    either : (b : Bool) → EndsNamed servers (cond b (by_path l p) (commit l (reply_of l.op)))
+    either true = path_ends servers l p
     either false = tt
 
-    unless : (o : Option LedEnd) (d : Decision) → IfSome o (IsNamedLed servers) → IsNamedLed servers (end_of_decision d)
-        → IsNamedLed servers (end_of_decision (unless_ended o d))
+    unless : (o : Option LedEnd) (d : Decision) → IfSome o (IsNamedLed servers) → EndsNamed servers d → EndsNamed servers (unless_ended o d)
     unless None d e h = h
     unless (Some x) d e h = e
 

@@ -102,7 +102,7 @@ module _ (servers : ℕ) (sessions : SessionStates) (k : ℕ) where
   with_others s rows h g =
       record {
         me = h.me;
-        pathless = h.pathless;
+        peers = h.peers;
         named = h.named;
         records = h.records;
         handles = h.handles;

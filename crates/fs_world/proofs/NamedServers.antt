@@ -1,7 +1,7 @@
 -- What a server has and sends: it knows of servers that there are, has rows of sessions that have joined, and its handles
 -- can be told; what it sends goes to such sessions and to other servers, and can be read.
-use Rattle.std.proofs.Common.{◌≡◌, ◌⊎◌, ◌<◌, ℕ, Bool, true, false, List, [], ◌∷◌, ◌++◌, map, not, Option, Some, None, refl, sym, subst}
-use Rattle.std.proofs.Common.{cond, inl, inr, arith}
+use Rattle.std.proofs.Common.{◌≡◌, ◌<◌, ℕ, Bool, true, false, List, [], ◌∷◌, ◌++◌, map, not, Option, Some, None, refl, sym, subst}
+use Rattle.std.proofs.Common.{cond, arith}
 use Rattle.std.specs.Prelude.{◌==◌}
 use Rattle.std.specs.FinMap.{empty, get}
 use Rattle.std.specs.List.{AllByRecursion, list_all}
@@ -18,7 +18,6 @@ use Rattle.fs_field.specs.declared.field.Field.TheVariants.{Life}
 use Rattle.fs_field.specs.declared.lease_kind.LeaseKind.{LeaseKind}
 use Rattle.fs_field.specs.declared.lease_kind.LeaseKind.TheVariants.{Exclusive}
 use Rattle.fs_map.specs.Lists.{piece_of}
-use Rattle.fs_map.specs.Map.{longest}
 use Rattle.fs_parcel.specs.Parcel.{not_mine}
 use Rattle.fs_parcel.specs.declared.error.MoveError.{MoveError}
 use Rattle.fs_parcel.specs.declared.error.MoveError.TheVariants as move
@@ -28,7 +27,6 @@ use Rattle.fs_record.specs.Records.{AreRecords, first_records, node_of, root_rec
 use Rattle.fs_record.specs.ValueOf.{handles_of, own_of}
 use Rattle.fs_record.specs.declared.led_end.LedEnd.TheVariants as led_end
 use Rattle.fs_record.specs.declared.led_end.Why.{Why}
-use Rattle.fs_record.specs.declared.led_end.Why.TheVariants as why
 use Rattle.fs_record.specs.declared.parcel.Parcel.{Parcel}
 use Rattle.fs_record.proofs.AllApplied.{after_all_kept}
 use Rattle.fs_record.proofs.Coming.{left_kept, with_kept}
@@ -47,12 +45,13 @@ use Rattle.fs_msg.specs.declared.item.Item.{Item}
 use Rattle.fs_msg.specs.declared.lead.Lead.{Lead as ToLead}
 use Rattle.fs_msg.specs.declared.msg.Msg.TheVariants as msg
 use Rattle.fs_msg.specs.declared.peer_msg.PeerMsg.{PeerMsg}
-use Rattle.fs_msg.specs.declared.peer_msg.PeerMsg.TheVariants.{Parcel as OfParcel, Prepare, Vote, Decide, Done}
-use Rattle.fs_server.proofs.Leading.{LeadEnds, begun as begins_to_lead, lead_ends, put_off, refusal_is, unled}
+use Rattle.fs_msg.specs.declared.peer_msg.PeerMsg.TheVariants.{Parcel as OfParcel, PathAsk, PathGrant, PathNo, PathRecall, PathRelease}
+use Rattle.fs_msg.specs.declared.peer_msg.PeerMsg.TheVariants.{Prepare, Vote, Decide, Done}
+use Rattle.fs_server.proofs.Leading.{LeadEnds, begun as begins_to_lead, kept, lead_ends, put_off, refusal_is, unled, wanted}
 use Rattle.fs_server.proofs.OneByOne.{AskEnds, ShipEnds, each_entry, each_item, each_lapsed, elsewhere, kept_off, misplaced, refused, waits}
 use Rattle.fs_server.specs.Asks.{Asking, ask_fresh, ask_from, ask_step, asked_in, fresh_for, fresh_in, fresh_of, grant_of, kind_for}
 use Rattle.fs_server.specs.Asks.{with_lease}
-use Rattle.fs_server.specs.Leads.{lead_refusal, lead_step, mode_of, moved_why}
+use Rattle.fs_server.specs.Leads.{lead_refusal, lead_step, wants_path}
 use Rattle.fs_server.specs.Moves.{fits_here, move_at, parcel_at, peer_step}
 use Rattle.fs_server.specs.Pairs.{numbers_in, pairs_end, pairs_here, released_rows, renewed_rows}
 use Rattle.fs_server.specs.Reaps.{Reaping, lapsed_in, reap_from, turn_over}
@@ -62,11 +61,13 @@ use Rattle.fs_server.specs.Step.{event_step, message_step, step}
 use Rattle.fs_server.specs.declared.event.ServerEvent.{ServerEvent}
 use Rattle.fs_server.specs.declared.event.ServerEvent.TheVariants.{FromClient, FromPeer, Move, Recall, Turn}
 use Rattle.fs_server.specs.declared.state.Server.{Server as Core}
-use Rattle.fs_serial.specs.Seen.{HasNoPaths}
-use Rattle.fs_serial.proofs.Moves.PathSteps.{refusal_here, refused as move_refused, refused_pathless, refused_silent}
+use Rattle.fs_serial.specs.PathLaws.{IsPathMessage}
+use Rattle.fs_serial.specs.Places.{MessageNames}
+use Rattle.fs_serial.proofs.Moves.PathSteps.{refusal_here}
 use Rattle.fs_wire.specs.Readable.{is_readable_session}
 use Rattle.fs_world.specs.Linked.{HasJoined, IsCarried, IsNamedEnd, IsNamedLed, IsParcelOf, IsServed}
 pub use Rattle.fs_world.proofs.NamedSends.{AreSent, IsBrought, IsSent, IsStepped, in_range, sent_readable}
+use Rattle.fs_world.proofs.NamedPaths.{path_goes, stays_goes, up_sent}
 use Rattle.fs_world.proofs.NamedSends.{either_goes, differ, strange_goes, with_others}
 use Rattle.fs_world.proofs.NamedTransactions.{begin_goes, decide_goes, prepare_goes, told_goes, vote_goes}
 use Rattle.fs_world.specs.Served.{SessionStates}
@@ -85,7 +86,7 @@ pub first_served_core : (servers : ℕ) (sessions : SessionStates) (k skew term 
     → IsServed servers sessions k (first_server k skew term)
 first_served_core servers sessions k skew term some = record {
   me = refl;
-  pathless = (refl, refl);
+  peers = (λ l i. absurd i, λ g i. absurd i);
   named = named_first servers some;
   records = first_kept (k == 0);
   handles = first_open (k == 0);
@@ -105,7 +106,7 @@ module _ (servers : ℕ) (sessions : SessionStates) (k : ℕ) (some : k < server
   begun_fine : (now : ℕ) (s : Core) → Fine s → Fine (begun now s)
   begun_fine now s h = record {
     me = h.me;
-    pathless = h.pathless;
+    peers = h.peers;
     named = h.named;
     records = h.records;
     handles = h.handles;
@@ -124,7 +125,7 @@ module _ (servers : ℕ) (sessions : SessionStates) (k : ℕ) (some : k < server
       → Fine (with_lease by field kind promise s)
   lease_fine by field kind promise s of h = record {
     me = h.me;
-    pathless = h.pathless;
+    peers = h.peers;
     named = h.named;
     records = h.records;
     handles = h.handles;
@@ -170,7 +171,7 @@ module _ (servers : ℕ) (sessions : SessionStates) (k : ℕ) (some : k < server
       record {
         server = record {
           me = lent.me;
-          pathless = lent.pathless;
+          peers = lent.peers;
           named = lent.named;
           records = subst (λ (o : Option ℕ). AreRecords (records_after_gift a.server.records dir o)) is
               (given_kept a.server.records dir borne h.server.records);
@@ -250,7 +251,7 @@ module _ (servers : ℕ) (sessions : SessionStates) (k : ℕ) (some : k < server
       (λ e es s admitted x mine here more r h. more (second _ _ r)
       (record {
         me = h.me;
-        pathless = h.pathless;
+        peers = h.peers;
         named = h.named;
         records = after_all_kept s.records (effects_of by e.op e.reply) h.records;
         handles = open_after_all s.records (effects_of by e.op e.reply) (effects_open by e.op e.reply (readable by of) (first _ _ r))
@@ -271,18 +272,32 @@ module _ (servers : ℕ) (sessions : SessionStates) (k : ℕ) (some : k < server
   -- ## An operation that is led
 
   why_fine : (m : ToLead) (s : Core) (w : Why) → lead_refusal s m ≡ Some w → Fine s → IsNamedLed servers (led_end.Again w)
-  why_fine m s w e h = at (refusal_is s m w e)
-    where
-      at : ((is_mine s (home_of m.op) ≡ false) × (w ≡ moved_why (longest s.map (home_of m.op)))) ⊎ (w ≡ why.Wanted (home_of m.op))
-          → IsNamedLed servers (led_end.Again w)
-      at (inl q) =
-          subst (λ v. IsNamedLed servers (led_end.Again v)) (sym q.1) (why_named servers s.map (home_of m.op) (omega (arith, some)) h.named)
-      at (inr q) = subst (λ v. IsNamedLed servers (led_end.Again v)) (sym q) tt
+  why_fine m s w e h =
+      subst (λ v. IsNamedLed servers (led_end.Again v)) (sym (refusal_is s m w e).1)
+      (why_named servers s.map (home_of m.op) (omega (arith, some)) h.named)
+
+  -- a path is wanted
+  wants_goes : (by : Session) (top dir : List ℕ) (s : Core) → HasJoined sessions by → Fine s → Goes (wants_path by top dir s)
+  wants_goes by top dir s of h = record {
+    server = record {
+      me = h.me;
+      peers = h.peers;
+      named = h.named;
+      records = h.records;
+      handles = h.handles;
+      rows = h.rows;
+      leading = h.leading;
+      ending = h.ending;
+    };
+    sends = ((of, tt, refl), up_sent servers sessions k some s h top dir);
+  }
 
   lead_goes : (by : Session) (m : ToLead) (s : Core) (x : Stepped) → LeadEnds by m s x → HasJoined sessions by → Fine s → Goes x
   lead_goes by m s x (unled l) of h = strange_goes servers sessions k s h
   lead_goes by m s x (put_off w l r) of h = record { server = h; sends = ((of, why_fine m s w r h, refl), tt) }
-  lead_goes by m s x (begins_to_lead l r) of h = begin_goes servers sessions k some (mode_of m.op m.kind) by m s of h
+  lead_goes by m s x (wanted top dir l o) of h = wants_goes by top dir s of h
+  lead_goes by m s x (kept file txn l o) of h = record { server = h; sends = ((of, tt, refl), tt) }
+  lead_goes by m s x (begins_to_lead mode l b) of h = begin_goes servers sessions k some mode by m s of h
 
   message_goes : (by : Session) (m : ClientMsg) (s : Core) → HasJoined sessions by → is_readable (msg.Client m) ≡ true → Fine s
       → Goes (message_step by m s)
@@ -314,7 +329,7 @@ module _ (servers : ℕ) (sessions : SessionStates) (k : ℕ) (some : k < server
       (λ f x xs s admitted blockers r e more h. more
       (record {
         me = h.me;
-        pathless = h.pathless;
+        peers = h.peers;
         named = h.named;
         records = after_all_kept s.records (reap_effects s.records f x) h.records;
         handles = open_after_all s.records (reap_effects s.records f x)
@@ -349,27 +364,13 @@ module _ (servers : ℕ) (sessions : SessionStates) (k : ℕ) (some : k < server
 
   moves_goes : (prefix : List ℕ) (to : ℕ) (s : Core) (o : Option MoveError) → refusal_here prefix to s ≡ o
       → to < servers → Fine s → Goes (move_at o prefix to s)
-  moves_goes prefix to s (Some why) e few h =
-      move_refused (λ (x : Stepped). x.out.send ≡ [] → HasNoPaths x.server → Goes x) s
-      (λ n ms paths asking given noted sent silent none. record {
-        server = record {
-          me = h.me;
-          named = h.named;
-          records = h.records;
-          handles = h.handles;
-          rows = h.rows;
-          leading = h.leading;
-          ending = h.ending;
-          pathless = none;
-        };
-        sends = subst (AreSent servers sessions k) (sym silent) tt;
-      }) why prefix to (refused_silent why prefix to s h.pathless) (refused_pathless why prefix to s h.pathless)
+  moves_goes prefix to s (Some why) e few h = stays_goes servers sessions k some s h why prefix to
   moves_goes prefix to s None e few h =
       let piece = piece_of s.map s.me prefix in
       record {
         server = record {
           me = h.me;
-          pathless = h.pathless;
+          peers = h.peers;
           named = named_give servers s.map s.me prefix to few h.named;
           records = left_kept prefix piece s.records h.records;
           handles = open_left prefix piece s.records h.handles;
@@ -398,7 +399,7 @@ module _ (servers : ℕ) (sessions : SessionStates) (k : ℕ) (some : k < server
   parcel_goes true p s of h = record {
     server = record {
       me = h.me;
-      pathless = h.pathless;
+      peers = h.peers;
       named = named_take servers s.map s.me p.prefix p.piece.given (subst (λ (n : ℕ). n < servers) (sym h.me) some) h.named;
       records = with_kept s.records p.records h.records of.each;
       handles = open_with p.records s.records of.handles h.handles;
@@ -410,6 +411,10 @@ module _ (servers : ℕ) (sessions : SessionStates) (k : ℕ) (some : k < server
   }
   parcel_goes false p s of h = strange_goes servers sessions k s h
 
+  its_path_goes : (from : ℕ) (m : PeerMsg) (s : Core) → IsCarried servers sessions (record { from = from; to = k; message = m })
+      → MessageNames servers m → IsPathMessage m → Fine s → Goes (peer_step from m s)
+  its_path_goes from m s of names is h = path_goes servers sessions k some s h from m (of.from, λ e. of.apart (sym e)) names is
+
   peer_goes : (from : ℕ) (m : PeerMsg) (s : Core) → IsCarried servers sessions (record { from = from; to = k; message = m }) → Fine s
       → Goes (peer_step from m s)
   peer_goes from (OfParcel p) s of h = parcel_goes (fits_here p s) p s of.brings h
@@ -417,7 +422,11 @@ module _ (servers : ℕ) (sessions : SessionStates) (k : ℕ) (some : k < server
   peer_goes from (Vote m) s of h = vote_goes servers sessions k some m s of.brings h
   peer_goes from (Decide m) s of h = decide_goes servers sessions k some from m s of.from (λ e. of.apart (sym e)) of.brings h
   peer_goes from (Done m) s of h = told_goes servers sessions k some m s h
-  peer_goes from m s of h = absurd (of.brings)
+  peer_goes from (PathAsk file dir) s of h = its_path_goes from (PathAsk file dir) s of tt tt h
+  peer_goes from (PathGrant number file path) s of h = its_path_goes from (PathGrant number file path) s of tt tt h
+  peer_goes from (PathNo file w) s of h = its_path_goes from (PathNo file w) s of of.brings tt h
+  peer_goes from (PathRecall number) s of h = its_path_goes from (PathRecall number) s of tt tt h
+  peer_goes from (PathRelease number) s of h = its_path_goes from (PathRelease number) s of tt tt h
 
   -- ## An event
 

@@ -11,6 +11,7 @@ use Rattle.fs_ident.proofs.Passing.{found}
 use Rattle.fs_ident.proofs.Standing.{In-more}
 use Rattle.fs_field.specs.Table.{same_txn}
 use Rattle.fs_field.specs.declared.effect.Effect.{Effect}
+use Rattle.fs_field.specs.declared.path.PathAnswer.{PathAnswer}
 use Rattle.fs_field.specs.declared.used.Part.{Part}
 use Rattle.fs_field.specs.declared.vote.Vote.{Vote}
 use Rattle.fs_field.specs.declared.vote.Vote.TheVariants as vote
@@ -29,17 +30,16 @@ use Rattle.fs_record.proofs.AllApplied.{after_all_kept}
 use Rattle.fs_record.specs.Applied.{is_undoable, records_after_all, takes_away}
 use Rattle.fs_record.specs.declared.led_end.LedEnd.{LedEnd}
 use Rattle.fs_serial.proofs.Lists.SetAt.{In_set}
-use Rattle.fs_serial.proofs.Moves.KeptPaths.{kept_alike, left_alike, pathless_still, voted_alike}
+use Rattle.fs_serial.proofs.Moves.KeptPaths.{kept_alike, left_alike, voted_alike}
 use Rattle.fs_serial.proofs.Transactions.PlacesAfter.{locked_so, unlocked_so, unlocked_unless, vote_names, voted_so}
-use Rattle.fs_serial.proofs.Transactions.Recalled.{no_recalls}
 use Rattle.fs_server.specs.Server.{Stepped, is_mine, strange}
 use Rattle.fs_server.specs.declared.state.Server.{Server as Core}
 use Rattle.fs_server.specs.Begins.{Round, asked_part, begins, first_round, leader_with, own_part, part_round, parts_in, round_of, rounds}
 use Rattle.fs_server.specs.Begins.{txn_of}
-use Rattle.fs_server.specs.Concludes.{concludes, ends_now, goes_on, keeps_for, tells, waits}
+use Rattle.fs_server.specs.Concludes.{concludes, ends_now, goes_on, keeps_for, path_for, tells, waits}
 use Rattle.fs_server.specs.Counts.{after_own_vote, ask_for, asked_at, comes_home, counts, counts_own, done_of, done_step, done_with, seeks}
-use Rattle.fs_server.specs.Counts.{sent_on, vote_of, vote_step, voted, with_vote}
-use Rattle.fs_server.specs.Follows.{after_vote, applies, decide_step, is_prepared, prepare_step, ready_of, recalls_for}
+use Rattle.fs_server.specs.Counts.{paths_voted, sent_on, vote_of, vote_step, voted, with_vote}
+use Rattle.fs_server.specs.Follows.{after_vote, applies, decide_step, is_prepared, paths_kept, prepare_step, ready_of, recalls_for}
 use Rattle.fs_server.specs.Follows.{to_server, vote_here, votes}
 use Rattle.fs_txn.specs.Deciding.{decision, told_effects}
 use Rattle.fs_txn.specs.Leading.{awaits_done, elsewhere, end_of_decision, ending_of, leading_of, own_effects, without_done}
@@ -58,6 +58,7 @@ use Rattle.fs_world.specs.Linked.{Brings, HasJoined, IsEndingOf, IsLeadingOf, Is
 use Rattle.fs_world.proofs.NamedLeading.{AreNamedVotes, TellsOpen, decision_ends, decision_tells, elsewhere_at, ending_more, leading_less}
 use Rattle.fs_world.proofs.NamedLeading.{leading_more, own_tellable, read_open, relocked_of, tellable_open, tellable_read, votes_named}
 use Rattle.fs_world.proofs.NamedMaps.{server_named}
+use Rattle.fs_world.proofs.NamedPaths.{others_still, recalls_sent}
 use Rattle.fs_world.proofs.NamedSends.{AreSent, IsSent, IsStepped, differ, either_goes, strange_goes}
 use Rattle.fs_world.proofs.OpenHandles.{AddsOpen, each_both, each_left, open_after_all}
 
@@ -84,15 +85,11 @@ module _ (servers : ℕ) (sessions : SessionStates) (k : ℕ) (some : k < server
   sends_one : (to : ℕ) (m : PeerMsg) → to < servers → k ≢ to → Brings servers sessions m → AreSent servers sessions k (to_server to m ∷ [])
   sends_one to m few apart brings = (record { from = some; to = few; apart = apart; brings = brings }, tt)
 
-  -- no path is asked back
-  recalls_sent : (v : Vote) (p : Part) (s : Core) → Fine s → AreSent servers sessions k (recalls_for v s p)
-  recalls_sent v p s h = subst (AreSent servers sessions k) (sym (no_recalls s h.pathless v p)) tt
-
   -- with other locks, and other files that transactions keep
   voted_fine : (txn : TxnNo) (p : Part) (v : Vote) (s : Core) → Fine s → Fine (after_own_vote txn p v s)
   voted_fine txn p v s h = record {
     me = h.me;
-    pathless = pathless_still s (after_own_vote txn p v s) (voted_alike v txn p.freeze s.paths) h.pathless;
+    peers = others_still servers k s.paths (paths_voted v txn p.freeze s.paths) (voted_alike v txn p.freeze s.paths) h.peers;
     named = h.named;
     records = h.records;
     handles = h.handles;
@@ -120,19 +117,19 @@ module _ (servers : ℕ) (sessions : SessionStates) (k : ℕ) (some : k < server
     tells_sent txn d xs plain (λ y i. others y (inr i)),
   )
 
-  conclude_goes : (l : Leading) (sent : List (Peer × Msg)) (s : Core) → IsLeadingOf servers sessions l → AreSent servers sessions k sent
-      → Fine s → Goes (concludes l sent s)
-  conclude_goes l sent s own sends h =
-      let d : Decision = decision l.leader None in
+  conclude_goes : (l : Leading) (path : Option PathAnswer) (sent : List (Peer × Msg)) (s : Core) → IsLeadingOf servers sessions l
+      → AreSent servers sessions k sent → Fine s → Goes (concludes l path sent s)
+  conclude_goes l path sent s own sends h =
+      let d : Decision = decision l.leader path in
       let out : List (ℕ × ℕ) = elsewhere s.me l in
-      let plain : TellsOpen d = decision_tells l.leader in
-      let named : IsNamedLed servers (end_of_decision d) = decision_ends servers l.leader own.votes in
+      let plain : TellsOpen d = decision_tells l.leader path in
+      let named : IsNamedLed servers (end_of_decision d) = decision_ends servers l.leader path own.votes in
       let es : List Effect = own_effects s.me l d in
       let x : Ending = record { txn = l.leader.txn; session = l.leader.session; end = end_of_decision d; awaits = out } in
       record {
         server = record {
           me = h.me;
-          pathless = h.pathless;
+          peers = h.peers;
           named = h.named;
           records = after_all_kept s.records es h.records;
           handles = open_after_all s.records es (tellable_open es (own_tellable s.me l d plain)) h.handles;
@@ -152,7 +149,7 @@ module _ (servers : ℕ) (sessions : SessionStates) (k : ℕ) (some : k < server
   wait_goes n l sent s own sends h = record {
     server = record {
       me = h.me;
-      pathless = h.pathless;
+      peers = h.peers;
       named = h.named;
       records = h.records;
       handles = h.handles;
@@ -163,11 +160,11 @@ module _ (servers : ℕ) (sessions : SessionStates) (k : ℕ) (some : k < server
     sends = sends;
   }
 
-  on_goes : (n : ServerNote) (l : Leading) (sent : List (Peer × Msg)) (s : Core) → IsLeadingOf servers sessions l
-      → AreSent servers sessions k sent → Fine s → Goes (goes_on n l sent s)
-  on_goes n l sent s own sends h =
-      either_goes servers sessions k (is_full l.leader.votes) (concludes l sent s) (waits n l sent s)
-      (conclude_goes l sent s own sends h) (wait_goes n l sent s own sends h)
+  on_goes : (n : ServerNote) (l : Leading) (path : Option PathAnswer) (sent : List (Peer × Msg)) (s : Core)
+      → IsLeadingOf servers sessions l → AreSent servers sessions k sent → Fine s → Goes (goes_on n l path sent s)
+  on_goes n l path sent s own sends h =
+      either_goes servers sessions k (is_full l.leader.votes) (concludes l path sent s) (waits n l sent s)
+      (conclude_goes l path sent s own sends h) (wait_goes n l sent s own sends h)
 
   -- ## A transaction begins
 
@@ -194,7 +191,7 @@ module _ (servers : ℕ) (sessions : SessionStates) (k : ℕ) (some : k < server
             one_vote r.votes (Some v)
             (λ w e. let is : v ≡ w = cc in subst (VoteNames servers) is (vote_fine by p r.server h.server)) h.votes;
         at = one_place r.at r.server.me (subst (λ (n : ℕ). n < servers) (sym h.server.me) some) h.at;
-        sends = each_both (IsSent servers sessions k) r.send _ h.sends (recalls_sent v p r.server h.server);
+        sends = each_both (IsSent servers sessions k) r.send _ h.sends (recalls_sent servers sessions k some v p r.server h.server);
       }
 
   asked_round : (txn : TxnNo) (number : ℕ) (by : Session) (p : Part) (to : ℕ) (r : Round) → to < servers → k ≢ to → HasJoined sessions by
@@ -228,7 +225,7 @@ module _ (servers : ℕ) (sessions : SessionStates) (k : ℕ) (some : k < server
   begin_goes mode by m s of h =
       let fine : Fine (first_round s).server = record {
         me = h.me;
-        pathless = h.pathless;
+        peers = h.peers;
         named = h.named;
         records = h.records;
         handles = h.handles;
@@ -239,7 +236,8 @@ module _ (servers : ℕ) (sessions : SessionStates) (k : ℕ) (some : k < server
       let first : IsRound (first_round s) = record { server = fine; votes = λ v i. absurd i; at = λ j i. absurd i; sends = tt } in
       let r : Round = round_of mode by m s in
       let all : IsRound (round_of mode by m s) = all_rounds (txn_of s) 0 by (parts_in mode m) (first_round s) of first in
-      on_goes (note.Prepares (txn_of s)) (record { leader = leader_with mode (txn_of s) by m r.votes; at = r.at }) r.send r.server
+      on_goes (note.Prepares (txn_of s)) (record { leader = leader_with mode (txn_of s) by m r.votes; at = r.at })
+      (path_for mode m.op s) r.send r.server
       (record { session = of; at = all.at; votes = all.votes }) all.sends all.server
 
   -- ## A vote comes
@@ -261,16 +259,16 @@ module _ (servers : ℕ) (sessions : SessionStates) (k : ℕ) (some : k < server
       wait_goes (note.Seeks l.leader.txn to) (asked_at number to l) (to_server to (ask_for l.leader.txn number l.leader.session p) ∷ []) s
       (asked_there number to l few own) (sends_one to (ask_for l.leader.txn number l.leader.session p) few apart own.session) h
 
-  counted_goes : (number : ℕ) (v : Vote) (l : Leading) (sent : List (Peer × Msg)) (s : Core) → VoteNames servers v
-      → IsLeadingOf servers sessions l → AreSent servers sessions k sent → Fine s
-      → Goes (goes_on (note.Waits l.leader.txn) (with_vote number v l) sent s)
-  counted_goes number v l sent s named own sends h =
-      on_goes (note.Waits l.leader.txn) (with_vote number v l) sent s
+  counted_goes : (number : ℕ) (v : Vote) (l : Leading) (path : Option PathAnswer) (sent : List (Peer × Msg)) (s : Core)
+      → VoteNames servers v → IsLeadingOf servers sessions l → AreSent servers sessions k sent → Fine s
+      → Goes (goes_on (note.Waits l.leader.txn) (with_vote number v l) path sent s)
+  counted_goes number v l path sent s named own sends h =
+      on_goes (note.Waits l.leader.txn) (with_vote number v l) path sent s
       (record { session = own.session; at = own.at; votes = votes_named servers l.leader.votes number v named own.votes }) sends h
 
   count_goes : (number : ℕ) (v : Vote) (l : Leading) (s : Core) → VoteNames servers v → IsLeadingOf servers sessions l → Fine s
       → Goes (counts number v l s)
-  count_goes number v l s named own h = counted_goes number v l [] s named own tt h
+  count_goes number v l s named own h = counted_goes number v l (path_for l.leader.mode l.leader.op s) [] s named own tt h
 
   home_goes : (number : ℕ) (p : Part) (l : Leading) (s : Core) → IsLeadingOf servers sessions l → Fine s → Goes (comes_home number p l s)
   home_goes number p l s own h = at (is_mine s p.file) refl
@@ -283,9 +281,10 @@ module _ (servers : ℕ) (sessions : SessionStates) (k : ℕ) (some : k < server
 
       at : (b : Bool) → is_mine s p.file ≡ b → Goes (cond b (counts_own number p v l s) (seeks number to p l s))
       at true e =
-          counted_goes number v (asked_at number s.me l) (recalls_for v s p) (after_own_vote l.leader.txn p v s)
+          counted_goes number v (asked_at number s.me l) (path_for l.leader.mode l.leader.op s) (recalls_for v s p)
+          (after_own_vote l.leader.txn p v s)
           (vote_fine l.leader.session p s h)
-          (asked_there number s.me l (subst (λ (n : ℕ). n < servers) (sym h.me) some) own) (recalls_sent v p s h)
+          (asked_there number s.me l (subst (λ (n : ℕ). n < servers) (sym h.me) some) own) (recalls_sent servers sessions k some v p s h)
           (voted_fine l.leader.txn p v s h)
       at false e = seek_goes number to p l s (map_named s p.file h) (not_here s p.file e h) own h
 
@@ -321,7 +320,7 @@ module _ (servers : ℕ) (sessions : SessionStates) (k : ℕ) (some : k < server
   done_goes x [] s own h = record {
     server = record {
       me = h.me;
-      pathless = h.pathless;
+      peers = h.peers;
       named = h.named;
       records = h.records;
       handles = h.handles;
@@ -334,7 +333,7 @@ module _ (servers : ℕ) (sessions : SessionStates) (k : ℕ) (some : k < server
   done_goes x (y ∷ ys) s own h = record {
     server = record {
       me = h.me;
-      pathless = h.pathless;
+      peers = h.peers;
       named = h.named;
       records = h.records;
       handles = h.handles;
@@ -361,7 +360,7 @@ module _ (servers : ℕ) (sessions : SessionStates) (k : ℕ) (some : k < server
   part_fine : (v : Vote) (x : Ready) (s : Core) → Fine s → Fine (after_vote v x s)
   part_fine vote.Yes x s h = record {
     me = h.me;
-    pathless = pathless_still s (after_vote vote.Yes x s) (kept_alike x.txn x.part.freeze s.paths) h.pathless;
+    peers = others_still servers k s.paths (paths_kept x.txn x.part.freeze s.paths) (kept_alike x.txn x.part.freeze s.paths) h.peers;
     named = h.named;
     records = h.records;
     handles = h.handles;
@@ -380,7 +379,7 @@ module _ (servers : ℕ) (sessions : SessionStates) (k : ℕ) (some : k < server
       (strange_goes servers sessions k s h)
       (record {
         server = part_fine v (ready_of m) s h;
-        sends = ((sends_one from _ few apart (vote_fine m.session m.part s h)).0, recalls_sent v m.part s h);
+        sends = ((sends_one from _ few apart (vote_fine m.session m.part s h)).0, recalls_sent servers sessions k some v m.part s h);
       })
 
   pub decide_goes : (from : ℕ) (m : Decide) (s : Core) → from < servers → k ≢ from → list_all is_readable_effect m.effects ≡ true → Fine s
@@ -395,7 +394,7 @@ module _ (servers : ℕ) (sessions : SessionStates) (k : ℕ) (some : k < server
       (record {
         server = record {
           me = h.me;
-          pathless = pathless_still s (applies from m s).server (left_alike waits_still m.txn s.paths) h.pathless;
+          peers = others_still servers k s.paths (applies from m s).server.paths (left_alike waits_still m.txn s.paths) h.peers;
           named = h.named;
           records = after_all_kept applied takes (after_all_kept s.records puts h.records);
           handles =

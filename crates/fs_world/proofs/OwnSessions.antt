@@ -6,6 +6,7 @@ use Rattle.fs_ident.specs.declared.actor.Session.{Session}
 use Rattle.fs_ident.specs.declared.actor.TxnNo.{TxnNo}
 use Rattle.fs_ident.proofs.Passing.{found}
 use Rattle.fs_field.specs.Table.{same_txn}
+use Rattle.fs_field.specs.declared.path.PathAnswer.{PathAnswer}
 use Rattle.fs_field.specs.declared.vote.Vote.{Vote}
 use Rattle.fs_msg.specs.declared.decide.Decide.{Decide as ToDecide}
 use Rattle.fs_msg.specs.declared.done.Done.{Done as ToldDone}
@@ -17,7 +18,7 @@ use Rattle.fs_msg.specs.declared.server_note.ServerNote.{ServerNote}
 use Rattle.fs_msg.specs.declared.server_note.ServerNote.TheVariants as note
 use Rattle.fs_msg.specs.declared.voted.Voted.{Voted}
 use Rattle.fs_record.specs.declared.parcel.Parcel.{Parcel}
-use Rattle.fs_server.specs.Concludes.{goes_on}
+use Rattle.fs_server.specs.Concludes.{goes_on, path_for}
 use Rattle.fs_server.specs.Counts.{after_own_vote, asked_at, done_step, done_with, vote_step, with_vote}
 use Rattle.fs_server.specs.Follows.{applies, ready_of, recalls_for, vote_here, votes}
 use Rattle.fs_server.specs.Moves.{fits_here, parcel_at, peer_step}
@@ -87,9 +88,10 @@ without_keeps ls gone txn by h = of_txn (same_txn txn gone) refl
 -- ## What another server tells
 
 -- a transaction of the table goes on, with other votes
-goes_keeps : (n : ServerNote) (l new : Leading) (sent : List (Peer × Msg)) (s t : Server) → t.leading ≡ s.leading
-    → leading_of new.leader.txn s.leading ≡ Some l → l.leader.session ≡ new.leader.session → Keeps s (goes_on n new sent t)
-goes_keeps n l new sent s t same there session = each_goes (Keeps s) n new sent t
+goes_keeps : (n : ServerNote) (l new : Leading) (path : Option PathAnswer) (sent : List (Peer × Msg)) (s t : Server)
+    → t.leading ≡ s.leading → leading_of new.leader.txn s.leading ≡ Some l → l.leader.session ≡ new.leader.session
+    → Keeps s (goes_on n new path sent t)
+goes_keeps n l new path sent s t same there session = each_goes (Keeps s) n new path sent t
     (λ txn by h. without_keeps s.leading new.leader.txn txn by
     (ap (λ ls. session_led (leading_of txn (without_leading new.leader.txn ls)) None) (sym same) ∙ h))
     (λ txn by h. with_keeps s.leading l new there session txn by
@@ -103,11 +105,12 @@ by_own m ls l there =
 vote_keeps : (m : Voted) (s : Server) → Keeps s (vote_step m s)
 vote_keeps m s = each_vote (Keeps s) m s (λ txn by h. h)
     (λ l p to f. with_keeps s.leading l (asked_at m.number to l) (by_own m s.leading l f) refl)
-    (λ l v f. goes_keeps (note.Waits l.leader.txn) l (with_vote m.number v l) [] s s refl (by_own m s.leading l f) refl)
+    (λ l v f. goes_keeps (note.Waits l.leader.txn) l (with_vote m.number v l) (path_for l.leader.mode l.leader.op s) [] s s refl
+    (by_own m s.leading l f) refl)
     (λ l p f.
     let v : Vote = vote_here s l.leader.session p in
-    goes_keeps (note.Waits l.leader.txn) l (with_vote m.number v (asked_at m.number s.me l)) (recalls_for v s p) s
-    (after_own_vote l.leader.txn p v s) refl (by_own m s.leading l f) refl)
+    goes_keeps (note.Waits l.leader.txn) l (with_vote m.number v (asked_at m.number s.me l)) (path_for l.leader.mode l.leader.op s)
+    (recalls_for v s p) s (after_own_vote l.leader.txn p v s) refl (by_own m s.leading l f) refl)
 
 left_keeps : (x : Ending) (left : List (ℕ × ℕ)) (s : Server) → Keeps s (done_with x left s)
 left_keeps x [] s txn by h = h

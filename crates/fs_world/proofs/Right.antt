@@ -6,6 +6,7 @@ use Rattle.fs_ident.specs.declared.actor.Peer.{Peer}
 use Rattle.fs_ident.specs.declared.actor.Peer.TheVariants.{Client as OfSession}
 use Rattle.fs_ident.specs.declared.actor.Session.{Session}
 use Rattle.fs_ident.specs.declared.actor.TxnNo.{TxnNo}
+use Rattle.fs_field.specs.declared.path.PathAnswer.{PathAnswer}
 use Rattle.fs_field.specs.declared.row.Row.{Row}
 use Rattle.fs_model.specs.Step.{is_empty}
 use Rattle.fs_view.specs.declared.view_lease.ViewLease.{ViewLease}
@@ -38,17 +39,16 @@ use Rattle.fs_txn.specs.Deciding.{decision}
 use Rattle.fs_txn.specs.Leading.{end_of_decision, without_done}
 use Rattle.fs_txn.specs.declared.leading.Ending.{Ending}
 use Rattle.fs_txn.specs.declared.leading.Leading.{Leading}
-use Rattle.fs_txn.specs.declared.mode.Mode2.{Mode2}
 use Rattle.fs_client.specs.Answers.{answer_plan, fits, led_plan, strange as strange_plan, fitting_plan}
 use Rattle.fs_client.specs.Client.{begun}
 use Rattle.fs_client.specs.Turns.{ending, idle, release_some, renew_some, returned, ship_some, turn_free, turn_on, turn_plan}
 use Rattle.fs_client.specs.declared.led.Led.{Led}
 use Rattle.fs_client.specs.declared.state.Client.{Client}
-use Rattle.fs_server.proofs.Leading.{LeadEnds, begun as txn_begun, lead_ends, put_off, unled}
+use Rattle.fs_server.proofs.Leading.{LeadEnds, begun as txn_begun, kept as path_kept, lead_ends, put_off, unled, wanted as path_wanted}
 use Rattle.fs_server.specs.Begins.{Round, leader_with, round_of, txn_of}
-use Rattle.fs_server.specs.Concludes.{end_note, goes_on}
+use Rattle.fs_server.specs.Concludes.{end_note, goes_on, path_for}
 use Rattle.fs_server.specs.Counts.{after_own_vote, asked_at, done_step, done_with, vote_step, with_vote}
-use Rattle.fs_server.specs.Leads.{lead_step, mode_of}
+use Rattle.fs_server.specs.Leads.{lead_step}
 use Rattle.fs_server.specs.Follows.{applies, is_prepared, recalls_for, vote_here, votes}
 use Rattle.fs_server.specs.Moves.{fits_here, move_at, parcel_at, peer_step}
 use Rattle.fs_server.specs.Reaps.{lapsed_in, turn_over}
@@ -60,7 +60,7 @@ use Rattle.fs_server.specs.declared.state.Server.{Server}
 use Rattle.fs_serial.specs.Cluster.{Cluster, IsThere, after_step}
 use Rattle.fs_serial.specs.EndedLeases.{WasEnded, asker_of, session_of_txn}
 use Rattle.fs_serial.specs.Refusals.{IsFairEnd, IsFairNote, rows_in}
-use Rattle.fs_serial.specs.Seen.{ClusterHolds}
+use Rattle.fs_serial.specs.Whole.{ClusterStands}
 use Rattle.fs_serial.proofs.Moves.PathSteps.{IsPathNote, each_message, refusal_here, refused}
 use Rattle.fs_world.specs.Refusals.{IsFair, is_core_strange}
 use Rattle.fs_world.proofs.LedEach.{each_done, each_goes, each_vote}
@@ -207,17 +207,18 @@ end_fair ok txn (led_end.Again w) = tt
 abbrev NotesFair : Answers → Stepped → Type 0
 NotesFair ok x = AnswersFair ok (x.out.note)
 
-goes_fair : (ok : Answers) (n : ServerNote) (l : Leading) (sent : List (Peer × Msg)) (s : Server) → AnswersFair ok n
-    → NotesFair ok (goes_on n l sent s)
-goes_fair ok n l sent s h = each_goes (NotesFair ok) n l sent s (end_fair ok l.leader.txn (end_of_decision (decision l.leader None))) h
+goes_fair : (ok : Answers) (n : ServerNote) (l : Leading) (path : Option PathAnswer) (sent : List (Peer × Msg)) (s : Server)
+    → AnswersFair ok n → NotesFair ok (goes_on n l path sent s)
+goes_fair ok n l path sent s h =
+    each_goes (NotesFair ok) n l path sent s (end_fair ok l.leader.txn (end_of_decision (decision l.leader path))) h
 
 vote_fair : (ok : Answers) (m : Voted) (s : Server) → NotesFair ok (vote_step m s)
 vote_fair ok m s = each_vote (NotesFair ok) m s tt
     (λ l p to f. tt)
-    (λ l v f. goes_fair ok (server_note.Waits l.leader.txn) (with_vote m.number v l) [] s tt)
+    (λ l v f. goes_fair ok (server_note.Waits l.leader.txn) (with_vote m.number v l) (path_for l.leader.mode l.leader.op s) [] s tt)
     (λ l p f. let v : AVote = vote_here s l.leader.session p in
-    goes_fair ok (server_note.Waits l.leader.txn) (with_vote m.number v (asked_at m.number s.me l)) (recalls_for v s p)
-    (after_own_vote l.leader.txn p v s) tt)
+    goes_fair ok (server_note.Waits l.leader.txn) (with_vote m.number v (asked_at m.number s.me l))
+    (path_for l.leader.mode l.leader.op s) (recalls_for v s p) (after_own_vote l.leader.txn p v s) tt)
 
 left_fair : (ok : Answers) (x : Ending) (left : List (ℕ × ℕ)) (s : Server) → NotesFair ok (done_with x left s)
 left_fair ok x [] s = tt
@@ -238,11 +239,12 @@ peer_fair ok from m s =
 lead_fair : (ok : Answers) (by : Session) (m : ToLead) (s : Server) (x : Stepped) → LeadEnds by m s x → AnswersFair ok (x.out.note)
 lead_fair ok by m s x (unled l) = tt
 lead_fair ok by m s x (put_off w l r) = tt
-lead_fair ok by m s x (txn_begun l r) =
-    let mode : Mode2 = mode_of m.op m.kind in
+lead_fair ok by m s x (path_wanted top dir l o) = tt
+lead_fair ok by m s x (path_kept file txn l o) = tt
+lead_fair ok by m s x (txn_begun mode l b) =
     let g : Round = round_of mode by m s in
-    goes_fair ok (server_note.Prepares (txn_of s)) (record { leader = leader_with mode (txn_of s) by m g.votes; at = g.at }) g.send g.server
-    tt
+    goes_fair ok (server_note.Prepares (txn_of s)) (record { leader = leader_with mode (txn_of s) by m g.votes; at = g.at })
+    (path_for mode m.op s) g.send g.server tt
 
 -- where each fair answer to the entries is one of these, so is what is noted
 ship_fair : (ok : Answers) (rows : List Row) (by : Session) (now : ℕ) (entries : List Entry) (n : ServerNote)
@@ -274,7 +276,7 @@ module _ (laws : SerialLaws) (skew greatest now k : ℕ) (s : Server) (c : Clust
   message_fair ok by (Release pairs) there takes = tt
   message_fair ok by (Lead m) there takes = let b : Server = server_begun now s in lead_fair ok by m b (lead_step by m b) (lead_ends by m b)
   message_fair ok by (Ship entries) there takes = ship_fair ok (rows_then (FromClient by (Ship entries))) by (max s.last now) entries
-      (step s now (FromClient by (Ship entries))).out.note takes (laws.fair skew greatest now k by entries s c at within there h.all)
+      (step s now (FromClient by (Ship entries))).out.note takes (laws.fair skew greatest now k by entries s c at within there h.all.holds)
 
   event_fair : (ok : Answers) (e : ServerEvent) → IsThere k e c → TakesEvent ok e → AnswersFair ok ((step s now e).out.note)
   event_fair ok (FromClient by m) there takes = message_fair ok by m there takes
@@ -296,12 +298,11 @@ module _ (laws : SerialLaws) (skew greatest now k : ℕ) (s : Server) (c : Clust
   pub event_right : (ok : Fairness) (e : ServerEvent) → IsThere k e c → TakesEvent ok.answers e → TakesOwn ok e → TakesEnded ok e
       → IsRight ok (note.Server (step s now e).out.note)
   event_right ok e there takes own ended =
-      let later : ClusterHolds skew (max greatest now) c = laws.rises skew greatest (max greatest now) c (omega arith) h.all in
+      let later : ClusterStands skew (max greatest now) c = laws.rises skew greatest (max greatest now) c (omega arith) h.all in
       record {
         plain = plain_server (step s now e).out.note (laws.server_plain skew (max greatest now) now k e s c at (omega arith) there later);
         fair = both_fair ok (step s now e).out.note (event_fair ok.answers e there takes) (λ txn lease until reading is.
-            let q = laws.fair_note skew (max greatest now) now k e s c at (omega (arith, clock)) (omega (arith, within)) there later h.fair
-            txn lease
-            until reading is in
+            let q = laws.fair_note skew (max greatest now) now k e s c at (omega (arith, clock)) (omega (arith, within)) there later.holds
+            h.fair txn lease until reading is in
             (q.0, own txn q.0 q.1, ended q.0 lease until reading q.2));
       }

@@ -110,7 +110,7 @@ notes_right (a ∷ answers) laws count skew greatest tale w h now within some s 
       subst (λ (n : Lines). IsRight ok (note.Client (answer_plan n.client now k a).out.note)) own
           (answer_right ok (lines_of w.term w.sessions s).client now k a (hears a (found (is_with k) state.down (k, a) next.0).0)
           (laws.client_plain skew greatest now k a s (cluster_of h.replied (parts_of w)) (ap (λ (n : Lines). find (is_with k) n.down) own
-          ∙ next.0) h.cluster.all)),
+          ∙ next.0) h.cluster.all.holds)),
       notes_right answers laws count skew (max greatest now) between v (heard_next (timed laws) count skew greatest tale w h now within
           some s state at k a state.post next.0) now (omega (arith, within)) some s one (got_here w.sessions s one) k ok
           (λ b i. hears b (In_without (is_with k) state.down (k, b) i)) next.1,

@@ -17,6 +17,7 @@ use Rattle.fs_field.specs.declared.field.Field.TheVariants.{Life}
 use Rattle.fs_field.specs.declared.lease_kind.LeaseKind.{LeaseKind}
 use Rattle.fs_field.specs.declared.lease_kind.LeaseKind.TheVariants.{Exclusive}
 use Rattle.fs_field.specs.declared.row.Row.{Row}
+use Rattle.fs_field.specs.declared.path.PathAnswer.{PathAnswer}
 use Rattle.fs_field.specs.declared.used.Part.{Part}
 use Rattle.fs_field.specs.declared.used.Use.{Use}
 use Rattle.fs_field.specs.Field.{file_of, same_field}
@@ -62,12 +63,14 @@ use Rattle.fs_txn.specs.declared.leading.Ending.{Ending}
 use Rattle.fs_txn.specs.declared.leading.Leading.{Leading}
 use Rattle.fs_txn.specs.declared.mode.Mode2.{Mode2}
 use Rattle.fs_txn.proofs.Locking.{used_same}
-use Rattle.fs_server.proofs.Leading.{LeadEnds, begun as txn_begun, lead_ends, put_off, unled}
+use Rattle.fs_server.proofs.Leading.{LeadEnds, begun as txn_begun, kept as path_kept, lead_ends, put_off, unled}
+use Rattle.fs_server.proofs.Leading.{wanted as path_wanted}
 use Rattle.fs_server.proofs.OneByOne.{each_item, reaps_leave, ships_leave}
 use Rattle.fs_server.specs.Begins.{Round, begins, first_round, leader_with, part_round, parts_in, round_of, rounds, txn_of}
-use Rattle.fs_server.specs.Concludes.{ends_now, goes_on, keeps_for, tells}
+use Rattle.fs_server.specs.Concludes.{ends_now, goes_on, keeps_for, path_for, tells}
 use Rattle.fs_server.specs.Counts.{after_own_vote, ask_for, asked_at, done_step, done_with, vote_step, with_vote}
-use Rattle.fs_server.specs.Leads.{lead_step, mode_of}
+use Rattle.fs_server.specs.Leads.{lead_step}
+use Rattle.fs_server.specs.PathsHere.{asks_up}
 use Rattle.fs_server.specs.Asks.{Asking, ask_fresh, ask_from, ask_step, asked_in, fresh_for, fresh_in, fresh_of, kind_for, recall_of}
 use Rattle.fs_server.specs.Asks.{recalls_at, with_lease}
 use Rattle.fs_server.specs.Follows.{applies, is_prepared, recalls_for as paths_back, to_server, vote_here, votes}
@@ -85,7 +88,7 @@ use Rattle.std.specs.Prelude.{IfSome}
 use Rattle.fs_serial.specs.Cluster.{parcel_in}
 use Rattle.fs_serial.specs.PathLaws.{IsPathMessage}
 use Rattle.fs_serial.proofs.Moves.Parcels.{if_some}
-use Rattle.fs_serial.proofs.Moves.PathSteps.{ArePathSends, each_message, refusal_here, refused}
+use Rattle.fs_serial.proofs.Moves.PathSteps.{ArePathSends, each_message, refusal_here, refused, up_sent}
 use Rattle.fs_serial.proofs.Transactions.Recalled.{recalls_on_paths}
 use Rattle.fs_serial.proofs.Transactions.RoundsLocks.{round_by}
 use Rattle.fs_world.proofs.LedEach.{each_done, each_goes, each_vote}
@@ -322,14 +325,14 @@ module _ (these : Session → Type 0) where
   sent_more : (xs ys : List (Peer × Msg)) → AreSentTo these xs → AreSentTo these ys → AreSentTo these (xs ++ ys)
   sent_more = each_both (λ (x : Peer × Msg). IsSentTo these x)
 
-  goes_of : (n : ServerNote) (l : Leading) (sent : List (Peer × Msg)) (s : Server) → these l.leader.session
-      → AreSentTo these sent → AreOf these s.rows → IsOf (goes_on n l sent s)
-  goes_of n l sent s p g h =
-      let d : Decision = decision l.leader None in
+  goes_of : (n : ServerNote) (l : Leading) (path : Option PathAnswer) (sent : List (Peer × Msg)) (s : Server) → these l.leader.session
+      → AreSentTo these sent → AreOf these s.rows → IsOf (goes_on n l path sent s)
+  goes_of n l path sent s p g h =
+      let d : Decision = decision l.leader path in
       let out : List (ℕ × ℕ) = elsewhere s.me l in
       let told = tells l.leader.txn d out in
       let ends = ends_now out l.leader.session (end_of_decision d) in
-      each_goes IsOf n l sent s
+      each_goes IsOf n l path sent s
       (record {
         rows = elim (keeps_for d out) as (λ b. AreOf these (cond b s.rows (rows_unlocked l.leader.txn s.rows))) [
           | true ↦ h
@@ -364,16 +367,16 @@ module _ (these : Session → Type 0) where
   begins_of mode by m s p h =
       let g : Round = round_of mode by m s in
       let all : RoundOf g = rounds_of (txn_of s) 0 by (parts_in mode m) (first_round s) (record { rows = h; sends = tt }) in
-      goes_of (note.Prepares (txn_of s)) (record { leader = leader_with mode (txn_of s) by m g.votes; at = g.at }) g.send g.server
-      p all.sends all.rows
+      goes_of (note.Prepares (txn_of s)) (record { leader = leader_with mode (txn_of s) by m g.votes; at = g.at }) (path_for mode m.op s)
+      g.send g.server p all.sends all.rows
 
   vote_of : (m : Voted) (s : Server) → LedOf s → AreOf these s.rows → IsOf (vote_step m s)
   vote_of m s led h = each_vote IsOf m s (strange_of s h)
       (λ l p to f. record { rows = h; sends = (tt, tt) })
-      (λ l v f. goes_of (note.Waits l.leader.txn) (with_vote m.number v l) [] s (its l f) tt h)
+      (λ l v f. goes_of (note.Waits l.leader.txn) (with_vote m.number v l) (path_for l.leader.mode l.leader.op s) [] s (its l f) tt h)
       (λ l p f. let v : AVote = vote_here s l.leader.session p in
-      goes_of (note.Waits l.leader.txn) (with_vote m.number v (asked_at m.number s.me l)) (paths_back v s p)
-      (after_own_vote l.leader.txn p v s) (its l f) (back_sent v s p) (voted_rows_of v l.leader.txn p.uses s.rows h))
+      goes_of (note.Waits l.leader.txn) (with_vote m.number v (asked_at m.number s.me l)) (path_for l.leader.mode l.leader.op s)
+      (paths_back v s p) (after_own_vote l.leader.txn p v s) (its l f) (back_sent v s p) (voted_rows_of v l.leader.txn p.uses s.rows h))
     where
       its : (l : Leading) → leading_of m.txn s.leading ≡ Some l → these l.leader.session
       its l f = led.leading l (found (λ (x : Leading). same_txn x.leader.txn m.txn) s.leading l f).0
@@ -389,7 +392,9 @@ module _ (these : Session → Type 0) where
   lead_of : (by : Session) (m : ToLead) (s : Server) (x : Stepped) → LeadEnds by m s x → these by → AreOf these s.rows → IsOf x
   lead_of by m s x (unled l) p h = strange_of s h
   lead_of by m s x (put_off w l r) p h = record { rows = h; sends = (p, tt) }
-  lead_of by m s x (txn_begun l r) p h = begins_of (mode_of m.op m.kind) by m s p h
+  lead_of by m s x (path_wanted top dir l o) p h = record { rows = h; sends = (p, paths_sent (asks_up top dir s) (up_sent top dir s)) }
+  lead_of by m s x (path_kept file txn l o) p h = record { rows = h; sends = (p, tt) }
+  lead_of by m s x (txn_begun mode l b) p h = begins_of mode by m s p h
 
   -- ## Each message of a session
 

@@ -28,23 +28,24 @@ use Rattle.fs_serial.specs.Refusals.{IsFairStep}
 use Rattle.fs_serial.specs.Leading.{IsLeading, IsLedBy, LedHolds}
 use Rattle.fs_serial.specs.Owed.{ends_in}
 use Rattle.fs_serial.specs.Seen.{ClusterHolds, IsAddressed}
+use Rattle.fs_serial.specs.Whole.{ClusterStands}
 use Rattle.fs_serial.proofs.Transactions.YesesStand.{session_stands}
 
 pub record SerialLaws : Type 0 where
   -- every event of a server keeps all that holds, and the greatest reading may rise
   pub event : (skew greatest now k : ℕ) (e : ServerEvent) (s : Server) (c : Cluster) → slice_get c.servers k ≡ Some s
-      → max s.last now ≤ greatest → IsThere k e c → ClusterHolds skew greatest c → ClusterHolds skew greatest (after_server now k e c)
-  pub rises : (skew greatest later : ℕ) (c : Cluster) → greatest ≤ later → ClusterHolds skew greatest c → ClusterHolds skew later c
+      → max s.last now ≤ greatest → IsThere k e c → ClusterStands skew greatest c → ClusterStands skew greatest (after_server now k e c)
+  pub rises : (skew greatest later : ℕ) (c : Cluster) → greatest ≤ later → ClusterStands skew greatest c → ClusterStands skew later c
   -- so does every event of a client
-  pub client : (skew greatest now : ℕ) (c : Cluster) (by : Session) → ClusterHolds skew greatest c → (e : ClientEvent) → CanCome by e c
-      → greatest ≤ now + skew → ClusterHolds skew greatest (after_client by now e c)
+  pub client : (skew greatest now : ℕ) (c : Cluster) (by : Session) → ClusterStands skew greatest c → (e : ClientEvent) → CanCome by e c
+      → greatest ≤ now + skew → ClusterStands skew greatest (after_client by now e c)
   -- nothing that comes is strange
   pub server_plain : (skew greatest now k : ℕ) (e : ServerEvent) (s : Server) (c : Cluster) → slice_get c.servers k ≡ Some s
-      → max s.last now ≤ greatest → IsThere k e c → ClusterHolds skew greatest c → (step s now e).out.note ≢ server_note.Strange
+      → max s.last now ≤ greatest → IsThere k e c → ClusterStands skew greatest c → (step s now e).out.note ≢ server_note.Strange
   pub client_plain : (skew greatest now from : ℕ) (a : Answer) (by : Session) (c : Cluster) → CanCome by (Hears from a) c
       → ClusterHolds skew greatest c → (answer_plan (c.lines by).client now from a).out.note ≢ client_note.Strange
   -- all of it holds at the start
-  pub first : (servers skew term greatest : ℕ) → 1 ≤ servers → ClusterHolds skew greatest (first_cluster servers skew term)
+  pub first : (servers skew term greatest : ℕ) → 1 ≤ servers → ClusterStands skew greatest (first_cluster servers skew term)
   -- refusals are fair
   pub fair : (skew greatest now k : ℕ) (by : Session) (entries : List Entry) (s : Server) (c : Cluster) → slice_get c.servers k ≡ Some s
       → greatest ≤ now + skew → IsThere k (FromClient by (Ship entries)) c → ClusterHolds skew greatest c
@@ -132,7 +133,7 @@ all_leaders skew greatest k s c at h l i =
 
 -- all of it, and that what is told of leases that had ended is right
 pub record TimedHolds (skew greatest : ℕ) (c : Cluster) : Type 0 where
-  pub all : ClusterHolds skew greatest c
+  pub all : ClusterStands skew greatest c
   pub fair : EndsFair c
 
 -- in time is an event where no reading before it is ahead of its own by more than the skew
@@ -143,21 +144,21 @@ timed laws = record {
   again = λ skew greatest now within. omega (arith, within);
   event = λ skew greatest now k e s c at clock within there h. record {
     all = laws.event skew greatest now k e s c at clock there h.all;
-    fair = laws.fair_event skew greatest now k e s c at clock within there h.all h.fair;
+    fair = laws.fair_event skew greatest now k e s c at clock within there h.all.holds h.fair;
   };
   rises = λ skew greatest later c rises h. record { all = laws.rises skew greatest later c rises h.all; fair = h.fair };
   client = λ skew greatest now c by h e can within. record {
     all = laws.client skew greatest now c by h.all e can within;
-    fair = laws.fair_client skew greatest now c by h.all h.fair e can;
+    fair = laws.fair_client skew greatest now c by h.all.holds h.fair e can;
   };
   first = λ servers skew term greatest some. record {
     all = laws.first servers skew term greatest some;
     fair = laws.fair_first servers skew term;
   };
-  clock = λ skew greatest s c i h. all_clock skew greatest s c i h.all;
-  asks = λ skew greatest s c by entries i there h. all_asks skew greatest s c by entries i there h.all;
-  owned = λ skew greatest s c x i h. all_owned skew greatest s c x i h.all;
-  exchanges = λ skew greatest s c x i h. all_exchanges skew greatest s c x i h.all;
-  leaders = λ skew greatest k s c at h. all_leaders skew greatest k s c at h.all;
-  led = λ skew greatest c h. h.all.led;
+  clock = λ skew greatest s c i h. all_clock skew greatest s c i h.all.holds;
+  asks = λ skew greatest s c by entries i there h. all_asks skew greatest s c by entries i there h.all.holds;
+  owned = λ skew greatest s c x i h. all_owned skew greatest s c x i h.all.holds;
+  exchanges = λ skew greatest s c x i h. all_exchanges skew greatest s c x i h.all.holds;
+  leaders = λ skew greatest k s c at h. all_leaders skew greatest k s c at h.all.holds;
+  led = λ skew greatest c h. h.all.holds.led;
 }

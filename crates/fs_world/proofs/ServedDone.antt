@@ -19,6 +19,7 @@ use Rattle.fs_serial.specs.Owed.{ends_in}
 use Rattle.fs_serial.specs.Serial.{JournalSerial}
 use Rattle.fs_serial.specs.Seen.{ClusterHolds, world_of}
 use Rattle.fs_serial.specs.Settled.{Settled}
+use Rattle.fs_serial.specs.Whole.{ClusterStands}
 use Rattle.fs_serial.specs.World.{WorldHolds, settled_at}
 use Rattle.fs_serial.proofs.DecidedEffects.HeldSeen.{held_same}
 use Rattle.fs_world.specs.Coming.{IsTold}
@@ -82,7 +83,7 @@ module _ (laws : SerialLaws) (count skew greatest : ℕ) (tale : Tale) (w : Serv
   server = a_server w.servers (subst (λ (n : ℕ). 1 ≤ n) (sym h.many) some)
 
   holds : WorldHolds greatest (world_of server.0 seen)
-  holds = let all : ClusterHolds skew greatest seen = h.cluster.all in (all.parts server.0 server.1).0
+  holds = let all : ClusterHolds skew greatest seen = h.cluster.all.holds in (all.parts server.0 server.1).0
 
   abbrev settled : Session → Settled
   settled s = settled_at s (ends_in seen s)
@@ -114,7 +115,7 @@ module _ (laws : SerialLaws) (count skew greatest : ℕ) (tale : Tale) (w : Serv
       subst (λ (x : Item). Agrees x t) (sym same) found.3
 
   pub served_serial : IsSerialRun first_space w.journal (space_of (ServedForm w))
-  served_serial = subst (JournalSerial w.journal) (sym (held_same seen h.cluster.all.led)) holds.all.servers.serial
+  served_serial = subst (JournalSerial w.journal) (sym (held_same seen h.cluster.all.holds.led)) holds.all.servers.serial
 
   pub served_ordered : IsInSessionOrder w.journal tale.told
   served_ordered = record { numbered = numbered; agreeing = agreeing }
@@ -128,7 +129,7 @@ module _ (laws : SerialLaws) (count skew greatest : ℕ) (tale : Tale) (w : Serv
 
   pub served_parts : ServedHold skew greatest tale.told w
   served_parts = record {
-    parts = subst (λ (replied : Session → List Item). ClusterHolds skew greatest (seen_by replied w)) replied_is h.cluster.all;
+    parts = subst (λ (replied : Session → List Item). ClusterStands skew greatest (seen_by replied w)) replied_is h.cluster.all;
     replies = λ x.
         subst (λ (is : List Item). IsTold x (ends_in seen x) is (told_to x tale.told))
         (sym (holds.all.sessions x).replies) (h.answered x).told;

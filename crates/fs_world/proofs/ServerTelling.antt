@@ -13,12 +13,15 @@ use Rattle.fs_ident.proofs.Passing.{found}
 use Rattle.fs_ident.proofs.Same.{itself, one_session}
 use Rattle.fs_ident.proofs.Standing.{In-behind, In-front, In-got, In-mapped, none_pass}
 use Rattle.fs_field.specs.Table.{same_txn}
+use Rattle.fs_field.specs.declared.path.PathAnswer.{PathAnswer}
+use Rattle.fs_field.specs.declared.path.PathAnswer.TheVariants as path
 use Rattle.fs_field.specs.declared.used.Part.{Part}
 use Rattle.fs_field.specs.declared.vote.Vote.{Vote as AVote}
 use Rattle.fs_field.specs.declared.vote.Vote.TheVariants as vote
 use Rattle.fs_map.specs.Map.{server_of}
 use Rattle.fs_model.specs.declared.op.Op.{Op}
 use Rattle.fs_model.specs.declared.reply.Reply.{Reply}
+use Rattle.fs_model.specs.declared.reply.Reply.TheVariants as reply
 use Rattle.fs_msg.specs.declared.answer.Answer.{Answer}
 use Rattle.fs_msg.specs.declared.answer.Answer.TheVariants as answer
 use Rattle.fs_msg.specs.declared.client_msg.ClientMsg.{ClientMsg}
@@ -44,7 +47,7 @@ use Rattle.fs_record.specs.Effects.{tells_its_effects}
 use Rattle.fs_record.specs.declared.led_end.LedEnd.{LedEnd}
 use Rattle.fs_record.specs.declared.led_end.LedEnd.TheVariants as end
 use Rattle.fs_record.specs.declared.led_end.Why.TheVariants as why
-use Rattle.fs_txn.specs.Deciding.{agreed, by_path, commit, decision, first_end, needs_path, reply_of, unless_ended}
+use Rattle.fs_txn.specs.Deciding.{agreed, by_files, by_path, commit, decision, first_end, has_file, needs_path, reply_of, unless_ended}
 use Rattle.fs_txn.specs.Leading.{awaits_done, elsewhere, end_of_decision, ending_of, leading_of, with_ending, without_done, without_ending}
 use Rattle.fs_txn.specs.Votes.{Votes, votes_after}
 use Rattle.fs_txn.specs.declared.decision.Decision.{Decision}
@@ -53,15 +56,17 @@ use Rattle.fs_txn.specs.declared.leader.Leader.{Leader}
 use Rattle.fs_txn.specs.declared.leading.Ending.{Ending}
 use Rattle.fs_txn.specs.declared.leading.Leading.{Leading}
 use Rattle.fs_txn.specs.declared.mode.Mode2.{Mode2}
+use Rattle.fs_txn.specs.declared.mode.Mode2.TheVariants.{Check, Freeze, Plain}
 use Rattle.fs_txn.proofs.Keys.{kept_in, txn_is}
 use Rattle.fs_server.specs.Asks.{ask_step, asked_in, recalls_at}
 use Rattle.fs_server.specs.Begins.{Round, first_round, leader_with, parts_in, part_round, round_of, rounds}
 use Rattle.fs_server.specs.Begins.{txn_of}
-use Rattle.fs_server.specs.Concludes.{admitted_of, concludes, ends_now, goes_on, tells, waits}
+use Rattle.fs_server.specs.Concludes.{admitted_of, concludes, ends_now, goes_on, path_for, tells, waits}
 use Rattle.fs_server.specs.Counts.{after_own_vote, ask_for, done_of, done_with, seeks}
 use Rattle.fs_server.specs.Counts.{vote_step}
 use Rattle.fs_server.specs.Follows.{after_vote, applies, is_prepared, ready_of, recalls_for as paths_back, to_server, vote_here, votes}
-use Rattle.fs_server.specs.Leads.{lead_step, mode_of}
+use Rattle.fs_server.specs.Leads.{lead_step}
+use Rattle.fs_server.specs.PathsHere.{asks_up}
 use Rattle.fs_server.specs.Moves.{fits_here, move_at, move_step, parcel_at, peer_step}
 use Rattle.fs_server.specs.Reaps.{lapsed_in, reap_from, recalls_for, turn_over, turn_step}
 use Rattle.fs_server.specs.Server.{Stepped, begun, is_mine, strange, to_session}
@@ -70,7 +75,7 @@ use Rattle.fs_server.specs.Step.{event_step, message_step, recalled_on, recalls_
 use Rattle.fs_server.specs.declared.event.ServerEvent.{ServerEvent}
 use Rattle.fs_server.specs.declared.event.ServerEvent.TheVariants.{FromClient, FromPeer, Turn, Recall as TheRecall, Move}
 use Rattle.fs_server.specs.declared.state.Server.{Server}
-use Rattle.fs_server.proofs.Leading.{LeadEnds, begun as begins_it, lead_ends, put_off, unled}
+use Rattle.fs_server.proofs.Leading.{LeadEnds, begun as begins_it, kept as path_kept, lead_ends, put_off, unled, wanted}
 use Rattle.fs_serial.specs.Cluster.{Cluster, IsThere, Lines, after_step, is_with, replies_after, with_item, with_items, without_question}
 use Rattle.fs_serial.specs.Exchange.{OneExchange, due, is_recall}
 use Rattle.fs_serial.specs.Leading.{IsEnded, IsLeading, LedHolds}
@@ -80,7 +85,7 @@ use Rattle.fs_serial.proofs.ClientMessages.Sending.{IsRecallTo, recall_all, reca
 use Rattle.fs_serial.proofs.Lists.EachAt.{each_same}
 use Rattle.fs_serial.proofs.Lists.SetAt.{In_new}
 use Rattle.fs_serial.proofs.Lists.Traffic.{messages, messages_append}
-use Rattle.fs_serial.proofs.Moves.PathSteps.{ArePathSends, each_message, path_stepped, refusal_here, refused}
+use Rattle.fs_serial.proofs.Moves.PathSteps.{ArePathSends, each_message, path_stepped, refusal_here, refused, up_sent}
 use Rattle.fs_serial.proofs.Transactions.LeavesLed.{ask_leaves, move_leaves, ship_leaves, turn_leaves}
 use Rattle.fs_serial.proofs.Transactions.Recalled.{recalls_on_paths}
 use Rattle.fs_serial.proofs.Transactions.RoundsLocks.{round_by}
@@ -131,16 +136,20 @@ paths_bring k x led ms sent = ap (λ (answers : List (ℕ × Answer)). items_wit
 back_unanswered : (k : ℕ) (x : Session) (v : AVote) (s : Server) (p : Part) → answers_to k x (paths_back v s p) ≡ []
 back_unanswered k x v s p = none_answered k x (paths_back v s p) (recalls_on_paths v s p)
 
--- an answer that brings nothing, and recalls behind it
-one_brings : (k : ℕ) (x : Session) (led : Option Led) (by : Session) (a : Answer) (rest : List (Peer × Msg))
-    → ((d : Led) → item_with x (Some d) a ≡ []) → ((m : Peer × Msg) → In m rest → IsRecallTo m) → Brings k x led (to_session by a ∷ rest) []
-one_brings k x None by a rest e are = none_comes x (messages (answers_to k x (to_session by a ∷ rest)))
-one_brings k x (Some d) by a rest e are =
-    let more = recalls_bring k x (Some d) rest are in
+-- an answer that brings nothing, and what brings nothing behind it
+then_brings : (k : ℕ) (x : Session) (led : Option Led) (by : Session) (a : Answer) (rest : List (Peer × Msg))
+    → ((d : Led) → item_with x (Some d) a ≡ []) → Brings k x led rest [] → Brings k x led (to_session by a ∷ rest) []
+then_brings k x None by a rest e more = none_comes x (messages (answers_to k x (to_session by a ∷ rest)))
+then_brings k x (Some d) by a rest e more =
     elim (by.0 == x.0) as (λ b. items_with x (Some d) (messages (cond b ((k, a) ∷ []) [] ++ answers_to k x rest)) ≡ []) [
       | true ↦ ap (λ is. is ++ items_with x (Some d) (messages (answers_to k x rest))) (e d) ∙ more
       | false ↦ more
     ]
+
+-- with recalls behind it
+one_brings : (k : ℕ) (x : Session) (led : Option Led) (by : Session) (a : Answer) (rest : List (Peer × Msg))
+    → ((d : Led) → item_with x (Some d) a ≡ []) → ((m : Peer × Msg) → In m rest → IsRecallTo m) → Brings k x led (to_session by a ∷ rest) []
+one_brings k x led by a rest e are = then_brings k x led by a rest e (recalls_bring k x led rest are)
 
 -- ## What is sent to sessions
 
@@ -294,17 +303,31 @@ module _ (x : Session) (d : Led) (l : Leader) (its : (l.session.0 == x.0) ≡ tr
       (sym (one_session l.session x its))
       ∙ sym (ap (λ b. cond b (let i : Item = record { by = OfSession l.session; n = l.n; op = l.op; reply = r } in i ∷ []) []) its)
 
-  agreed_ends : (b : Bool) → EndsAs (cond b (by_path l None) (commit l (reply_of l.op)))
-  agreed_ends true = refl
-  agreed_ends false = commit_ends (reply_of l.op)
+  files_end : (mode : Mode2) (on : Bool) → EndsAs (by_files l mode on)
+  files_end Check true = commit_ends reply.Cycle
+  files_end Check false = refl
+  files_end Plain true = refl
+  files_end Plain false = commit_ends reply.Renamed
+  files_end Freeze true = refl
+  files_end Freeze false = commit_ends reply.Renamed
+
+  path_ends : (p : Option PathAnswer) → EndsAs (by_path l p)
+  path_ends None = refl
+  path_ends (Some (path.Path files)) = files_end l.mode (has_file files l.file)
+  path_ends (Some (path.Wanted file parent)) = refl
+  path_ends (Some (path.Frozen file txn)) = refl
+
+  agreed_ends : (b : Bool) (p : Option PathAnswer) → EndsAs (cond b (by_path l p) (commit l (reply_of l.op)))
+  agreed_ends true p = path_ends p
+  agreed_ends false p = commit_ends (reply_of l.op)
 
   -- the session is told of what is admitted
-  ends_as : EndsAs (decision l None)
-  ends_as = at (first_end l.votes) refl
+  ends_as : (p : Option PathAnswer) → EndsAs (decision l p)
+  ends_as p = at (first_end l.votes) refl
     where
-      at : (o : Option LedEnd) → first_end l.votes ≡ o → EndsAs (unless_ended o (agreed l None))
+      at : (o : Option LedEnd) → first_end l.votes ≡ o → EndsAs (unless_ended o (agreed l p))
       at (Some e) f = no_reply x d l.votes e f
-      at None f = agreed_ends (needs_path l.mode l.op)
+      at None f = agreed_ends (needs_path l.mode l.op) p
 
 -- others are told of nothing
 others_none : (x : Session) (l : Leader) (d : Decision) → (l.session.0 == x.0) ≡ false → items_by x (admitted_of d l) ≡ []
@@ -433,12 +456,12 @@ module _ (k : ℕ) (c : Cluster) (s : Server) (at : slice_get c.servers k ≡ So
   abbrev Passes : ServerEvent → Stepped → Type 0
   Passes e y = AsksOne (then e y) x → IsBrought e y
 
-  module _ (before : AsksOne c x) (e : ServerEvent) (n : ServerNote) (l : Leading) (more : List (Peer × Msg)) (t : Server)
-      (ending : t.ending ≡ s.ending) (words : answers_to k x more ≡ [])
+  module _ (before : AsksOne c x) (e : ServerEvent) (n : ServerNote) (l : Leading) (by : Option PathAnswer) (more : List (Peer × Msg))
+      (t : Server) (ending : t.ending ≡ s.ending) (words : answers_to k x more ≡ [])
       (admits : (items : List Item) → brought e x items ≡ items_by x items) (new : ending_of l.leader.txn s.ending ≡ None)
       (awaited : (l.leader.session.0 == x.0) ≡ true → IsAwaited c x l.leader) where
     abbrev d : Decision
-    d = decision l.leader None
+    d = decision l.leader by
 
     abbrev out : List (ℕ × ℕ)
     out = elsewhere t.me l
@@ -446,10 +469,10 @@ module _ (k : ℕ) (c : Cluster) (s : Server) (at : slice_get c.servers k ≡ So
     abbrev z : Ending
     z = record { txn = l.leader.txn; session = l.leader.session; end = end_of_decision d; awaits = out }
 
-    its : (concludes l more t).server.ending ≡ with_ending z s.ending
+    its : (concludes l by more t).server.ending ≡ with_ending z s.ending
     its = ap (with_ending z) ending
 
-    told_so : answers_to k x (concludes l more t).out.send ≡ answers_to k x (ends_now out z.session z.end)
+    told_so : answers_to k x (concludes l by more t).out.send ≡ answers_to k x (ends_now out z.session z.end)
     told_so =
         answers_more k x more (tells l.leader.txn d out ++ ends_now out z.session z.end)
         ∙ ap (λ ms. ms ++ answers_to k x (tells l.leader.txn d out ++ ends_now out z.session z.end)) words
@@ -459,21 +482,21 @@ module _ (k : ℕ) (c : Cluster) (s : Server) (at : slice_get c.servers k ≡ So
     one w i f =
         let wrong : false ≡ true = sym (none_pass (λ (u : Ending). same_txn u.txn l.leader.txn) s.ending new w i) ∙ f in absurd (cc wrong)
 
-    decides : Passes e (concludes l more t)
+    decides : Passes e (concludes l by more t)
     decides after = by_session (l.leader.session.0 == x.0) refl
       where
-        by_session : (b : Bool) → (l.leader.session.0 == x.0) ≡ b → IsBrought e (concludes l more t)
-        by_session false off = to_others e (concludes l more t) z its told_so off one
+        by_session : (b : Bool) → (l.leader.session.0 == x.0) ≡ b → IsBrought e (concludes l by more t)
+        by_session false off = to_others e (concludes l by more t) z its told_so off one
             (admits (admitted_of d l.leader) ∙ others_none x l.leader d off)
         by_session true mine =
             let a = awaited mine in
-            comes_then e (concludes l more t) z its told_so mine after a.led a.is
-            ∙ ends_as x a.led l.leader mine a.number a.op
+            comes_then e (concludes l by more t) z its told_so mine after a.led a.is
+            ∙ ends_as x a.led l.leader mine a.number a.op by
             ∙ sym (admits (admitted_of d l.leader))
             ∙ ap (λ is. is ++ brought e x (admitted_of d l.leader)) (sym (none_comes_yet c x before a.asked a.stands))
 
-    goes : Passes e (goes_on n l more t)
-    goes = each_goes (Passes e) n l more t decides
+    goes : Passes e (goes_on n l by more t)
+    goes = each_goes (Passes e) n l by more t decides
         (λ after. quiet e (waits n l more t) ending (ap (λ ms. items_with x led (messages ms)) words) refl)
 
   module _ (held : LedHolds c) (before : AsksOne c x) where
@@ -518,11 +541,8 @@ module _ (k : ℕ) (c : Cluster) (s : Server) (at : slice_get c.servers k ≡ So
       abbrev asks_it : ServerEvent
       asks_it = FromClient by (Lead m)
 
-      abbrev mode : Mode2
-      mode = mode_of m.op m.kind
-
-      asked_awaited : (votes : Votes) → (by.0 == x.0) ≡ true → IsAwaited c x (leader_with mode (txn_of u) by m votes)
-      asked_awaited votes mine =
+      asked_awaited : (mode : Mode2) (votes : Votes) → (by.0 == x.0) ≡ true → IsAwaited c x (leader_with mode (txn_of u) by m votes)
+      asked_awaited mode votes mine =
           let up : In (Lead m) (ends_in c by).up =
           In-front (Lead m) (messages (c.lines by).up) (taken_leads by (c.lines by).client.led c.servers)
           (In-mapped (λ (n : ℕ × ClientMsg). n.1) (k, Lead m) (c.lines by).up (found (is_with k) (c.lines by).up (k, Lead m) there).0) in
@@ -551,13 +571,18 @@ module _ (k : ℕ) (c : Cluster) (s : Server) (at : slice_get c.servers k ≡ So
       lead_passes : (y : Stepped) → LeadEnds by m u y → Passes asks_it y
       lead_passes y (unled l) after = quiet asks_it y refl refl refl
       lead_passes y (put_off w l r) after = quiet asks_it y refl (one_brings k x led by _ [] (λ d. refl) (λ n i. absurd i)) refl
-      lead_passes y (begins_it l r) after =
+      lead_passes y (wanted top dir l o) after = quiet asks_it y refl
+          (then_brings k x led by (answer.Led (end.Again (why.Wanted top))) (asks_up top dir u) (λ d. refl)
+          (paths_bring k x led (asks_up top dir u) (up_sent top dir u))) refl
+      lead_passes y (path_kept file txn l o) after =
+          quiet asks_it y refl (one_brings k x led by _ [] (λ d. refl) (λ n i. absurd i)) refl
+      lead_passes y (begins_it mode l b) after =
           let g : Round = round_of mode by m u in
           goes before asks_it (note.Prepares (txn_of u))
-          (record { leader = leader_with mode (txn_of u) by m g.votes; at = g.at }) g.send g.server
+          (record { leader = leader_with mode (txn_of u) by m g.votes; at = g.at }) (path_for mode m.op u) g.send g.server
           (ap (λ (z : Server). z.ending) (rounds_server (txn_of u) 0 by (parts_in mode m) (first_round u)))
           (rounds_quiet k x (txn_of u) 0 by (parts_in mode m) (first_round u) refl)
-          (λ items. refl) new_txn (asked_awaited g.votes) after
+          (λ items. refl) new_txn (asked_awaited mode g.votes) after
 
     -- ## A vote
 
@@ -572,12 +597,13 @@ module _ (k : ℕ) (c : Cluster) (s : Server) (at : slice_get c.servers k ≡ So
       among : (l : Leading) → leading_of m.txn s.leading ≡ Some l → In l s.leading
       among l f = (found (λ (z : Leading). same_txn z.leader.txn m.txn) s.leading l f).0
 
-      counted : (l : Leading) (votes : Votes) (places : List ℕ) (more : List (Peer × Msg)) (t : Server) → In l s.leading
-          → t.ending ≡ s.ending → answers_to k x more ≡ []
-          → Passes votes_it (goes_on (note.Waits l.leader.txn) (record { leader = record l.leader { votes = votes }; at = places }) more t)
-      counted l votes places more t i ending words =
-          goes before votes_it (note.Waits l.leader.txn) (record { leader = record l.leader { votes = votes }; at = places }) more t ending
-          words (λ items. refl) (held.leading s here l i).only (λ mine. let a = leads_awaited l i mine in record {
+      counted : (l : Leading) (votes : Votes) (places : List ℕ) (by : Option PathAnswer) (more : List (Peer × Msg)) (t : Server)
+          → In l s.leading → t.ending ≡ s.ending → answers_to k x more ≡ []
+          → Passes votes_it
+          (goes_on (note.Waits l.leader.txn) (record { leader = record l.leader { votes = votes }; at = places }) by more t)
+      counted l votes places by more t i ending words =
+          goes before votes_it (note.Waits l.leader.txn) (record { leader = record l.leader { votes = votes }; at = places }) by more t
+          ending words (λ items. refl) (held.leading s here l i).only (λ mine. let a = leads_awaited l i mine in record {
             led = a.led;
             is = a.is;
             number = a.number;
@@ -589,10 +615,12 @@ module _ (k : ℕ) (c : Cluster) (s : Server) (at : slice_get c.servers k ≡ So
       vote_passes : Passes votes_it (vote_step m v)
       vote_passes = each_vote (Passes votes_it) m v (λ after. quiet votes_it (strange v) refl refl refl)
           (λ l p to f after. quiet votes_it (seeks m.number to p l v) refl refl refl)
-          (λ l w f. counted l (votes_after l.leader.votes m.number w) l.at [] v (among l f) refl refl)
+          (λ l w f.
+          counted l (votes_after l.leader.votes m.number w) l.at (path_for l.leader.mode l.leader.op v) [] v (among l f) refl refl)
           (λ l p f. let w : AVote = vote_here v l.leader.session p in
-          counted l (votes_after l.leader.votes m.number w) (slice_set l.at m.number v.me) (paths_back w v p)
-          (after_own_vote l.leader.txn p w v) (among l f) refl (back_unanswered k x w v p))
+          counted l (votes_after l.leader.votes m.number w) (slice_set l.at m.number v.me)
+          (path_for l.leader.mode l.leader.op v) (paths_back w v p) (after_own_vote l.leader.txn p w v) (among l f) refl
+          (back_unanswered k x w v p))
 
     -- ## All is done
 

@@ -26,8 +26,10 @@ use Rattle.fs_record.specs.declared.led_end.LedEnd.{LedEnd}
 use Rattle.fs_record.specs.declared.led_end.LedEnd.TheVariants as led
 use Rattle.fs_record.specs.declared.led_end.Why.TheVariants as why
 use Rattle.fs_record.specs.declared.parcel.Parcel.{Parcel}
-use Rattle.fs_serial.specs.Places.{VoteNames}
-use Rattle.fs_serial.specs.Seen.{HasNoPaths}
+use Rattle.fs_path.specs.Leases.{PathLease}
+use Rattle.fs_path.specs.Tables.{PathTables, lease_of}
+use Rattle.fs_path.specs.declared.having.Having.{Having}
+use Rattle.fs_serial.specs.Places.{VoteNames, WhyNames}
 use Rattle.fs_serial.specs.declared.in_flight.InFlight.{InFlight}
 use Rattle.fs_server.specs.declared.state.Server.{Server as Core}
 use Rattle.fs_txn.specs.declared.leading.Ending.{Ending}
@@ -143,8 +145,17 @@ pub record IsEndingOf (servers : ℕ) (sessions : SessionStates) (x : Ending) : 
   pub session : HasJoined sessions x.session
   pub end : IsNamedLed servers x.end
 
--- a server knows only of servers that there are, has rows of sessions that have joined and leads operations of such, and its handles can
--- be told
+-- another one of so many servers
+abbrev pub IsOther : ℕ → ℕ → ℕ → Type 0
+IsOther servers k peer = (peer < servers) × (k ≢ peer)
+
+-- each path lease is between the server and another one
+abbrev pub HasOthers : ℕ → ℕ → PathTables → Type 0
+HasOthers servers k t = ((l : PathLease) → In l t.issued → IsOther servers k l.peer)
+    × ((h : Having) → In h t.held → IsOther servers k (lease_of h).peer)
+
+-- a server knows only of servers that there are, has rows of sessions that have joined and leads operations of such, its handles can be
+-- told, and its path leases are with other servers
 pub record IsServed (servers : ℕ) (sessions : SessionStates) (k : ℕ) (s : Core) : Type 0 where
   pub me : s.me ≡ k
   pub named : AreNamed servers s.map
@@ -153,8 +164,7 @@ pub record IsServed (servers : ℕ) (sessions : SessionStates) (k : ℕ) (s : Co
   pub rows : AreOfJoined sessions s.rows
   pub leading : (l : Leading) → In l s.leading → IsLeadingOf servers sessions l
   pub ending : (x : Ending) → In x s.ending → IsEndingOf servers sessions x
-  -- no server asks for a path yet
-  pub pathless : HasNoPaths s
+  pub peers : HasOthers servers k s.paths
 
 -- a session asks servers that there are, and is told of such
 pub record IsSoundState (servers : ℕ) (s : Session) (state : SessionState) : Type 0 where
@@ -171,15 +181,15 @@ pub record IsParcelOf (sessions : SessionStates) (p : Parcel) : Type 0 where
   pub handles : RecordsOpen p.records
   pub rows : AreOfJoined sessions p.rows
 
--- what a server is told by another one can be told: such a parcel, or a part of a session that has joined, a vote that names servers that
--- there are, and effects that can be read; no server sends a message of path leases yet
+-- what a server is told by another one can be told: such a parcel, or a part of a session that has joined, a vote or a cause that names
+-- servers that there are, and effects that can be read; all else can be
 abbrev pub Brings : ℕ → SessionStates → PeerMsg → Type 0
 Brings servers sessions (peer.Parcel p) = IsParcelOf sessions p
 Brings servers sessions (peer.Prepare m) = HasJoined sessions m.session
 Brings servers sessions (peer.Vote m) = VoteNames servers m.vote
 Brings servers sessions (peer.Decide m) = list_all is_readable_effect m.effects ≡ true
-Brings servers sessions (peer.Done m) = Unit {0}
-Brings servers sessions m = ⊥
+Brings servers sessions (peer.PathNo file w) = WhyNames servers w
+Brings servers sessions m = Unit {0}
 
 -- a message goes from one server to another, and can be told
 pub record IsCarried (servers : ℕ) (sessions : SessionStates) (f : InFlight) : Type 0 where

@@ -10,7 +10,7 @@ use Rattle.fs_serial.specs.Cluster.{Cluster, Lines, first_lines}
 use Rattle.fs_serial.specs.Numbers.{all_items}
 use Rattle.fs_serial.specs.Owed.{ends_with}
 use Rattle.fs_serial.specs.Runs.{IsOrderly}
-use Rattle.fs_serial.specs.Seen.{ClusterHolds}
+use Rattle.fs_serial.specs.Whole.{ClusterStands}
 use Rattle.fs_serial.specs.World.{Ends, settled_at}
 use Rattle.fs_world.specs.Coming.{IsTold}
 use Rattle.fs_world.specs.Order.{ReplyGiven, replies_given, told_to}
@@ -45,7 +45,7 @@ replied_in w x = all_items x w.journal (settled_at x (ends_at w x)).log
 -- where no reading was greater and this was told: all parts of the invariant hold, and those items are what the notes told each session,
 -- and what is on its way to it or owed
 pub record ServedHold (skew greatest : ℕ) (told : List ReplyGiven) (w : Served) : Type 0 where
-  pub parts : ClusterHolds skew greatest (seen (replied_in w) w)
+  pub parts : ClusterStands skew greatest (seen (replied_in w) w)
   pub replies : (x : Session) → IsTold x (ends_at w x) (replied_in w x) (told_to x told)
 
 -- the direct form has no parts

@@ -41,7 +41,7 @@ fn put_copy<V: Twin>(
     put(twin, number, copy)
 }
 
-/// Puts the value at the number, and gives up what stood there. Where memory is wanting, the value is given up.
+/// Puts the value at the number, and gives up what stood there. When out of memory, the value is given up.
 #[tactic(auto, using(fs_ident::proofs::MapsOf::numbered_maps))]
 pub(crate) fn put<V: Twin>(
     values: &mut BTreeMap<u16, V>,

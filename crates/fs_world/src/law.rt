@@ -48,7 +48,8 @@ pub fn no_short_run_is_spent()
         stop_of s ≡ None }
 {}
 
-/// No core of a server or of a client is ever told what no honest actor sends: no question, no answer and no parcel.
+/// No core of a server or of a client is ever told what no honest actor sends: no question, no answer, no parcel and no
+/// message of path leases.
 pub fn no_core_is_told_what_is_strange()
     ensures { (s : Schedule) → FitsHead s.head → AllMayHappen s.head s.events →
         IsTimely s.head s.events → AllWithin (first_world s.head) s.events →

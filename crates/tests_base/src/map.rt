@@ -47,7 +47,7 @@ pub(crate) fn tells(
     Ok(())
 }
 
-/// The same of a map that is let go.
+/// The prefixes of a map that is let go, with their servers, are these.
 pub(crate) fn tells_and_goes(
     rt: &impl Abort,
     alloc: Global,

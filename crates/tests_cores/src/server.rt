@@ -9,6 +9,7 @@ mod follows;
 mod leads;
 mod moves;
 mod opens;
+mod paths;
 mod said;
 mod three_servers;
 

@@ -58,7 +58,7 @@ fn is_value<T: Wire + Debug>(
     reads(rt, alloc, value, text)
 }
 
-/// How many bytes are left where reading stops; more than there may be where memory is wanting.
+/// How many bytes are left where reading stops; more than there may be when out of memory.
 fn left_of(error: ReadError) -> usize {
     match error {
         ReadError::Memory => usize::MAX,

@@ -126,7 +126,7 @@ fn line_of(alloc: Global, item: &Item) -> Result<Vec<u8>, Fail> {
     Ok(out)
 }
 
-/// The same of the first session's operation of this number.
+/// The line of the first session's operation of this number with this reply.
 fn line_of_item(alloc: Global, n: u64, op: Op, reply: Reply) -> Result<Vec<u8>, Fail> {
     let by = Peer::Client(Session(1));
     let item = Item { by, n, op, reply };
@@ -299,7 +299,7 @@ fn reap(file: FileId) -> Op {
     }
 }
 
-/// The same where it has a name.
+/// The operation that the line of this number tells, where it has a name.
 fn op_on_name(alloc: Global, k: u64) -> Result<Op, IdError> {
     let (dir, name) = place(alloc, b"/", b"a")?;
     match k {

@@ -145,7 +145,7 @@ const FIRST_LINES: [(&str, &str); 26] = [
     ("1", "farsite 1 servers 1 skew 10 term 100 \n"),
 ];
 
-/// The same behind the first line of the direct form.
+/// Texts behind the first line of the direct form, each behind what comes of it.
 const DIRECT_LINES: [(&str, &str); 25] = [
     ("2", "0 move s0 / s0"),
     ("2", "\n"),
@@ -174,7 +174,7 @@ const DIRECT_LINES: [(&str, &str); 25] = [
     ("2", "0 do c1 reap /1 c2"),
 ];
 
-/// The same behind the first line of the servers form.
+/// Texts behind the first line of the servers form, each behind what comes of it.
 const SERVED_LINES: [(&str, &str); 35] = [
     ("2", "0 tell"),
     ("2", "0 tell 00"),
@@ -213,7 +213,7 @@ const SERVED_LINES: [(&str, &str); 35] = [
     ("2", "0 do c1 rename / \"a\" /"),
 ];
 
-/// The same there, with a skew of 10.
+/// Readings behind the first line of the servers form with a skew of 10, each behind what comes of it.
 const READINGS: [(&str, &str); 5] = [
     ("read", "100 join c1\n90 join c2"),
     (

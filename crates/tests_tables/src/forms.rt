@@ -29,7 +29,7 @@ pub(crate) fn kept<T: Drop, A: Drop>(x: T, done: Result<A, Fail>) -> Result<T, F
     Ok(x)
 }
 
-/// The same, where what was done to it is one call.
+/// The value, if the one call that was made on it went well.
 pub(crate) fn kept_by<T: Drop, A: Drop>(x: T, done: Result<A, Memory>) -> Result<T, Fail>
     ensures { IfOk result (λ y. y ≡ x) }
 {

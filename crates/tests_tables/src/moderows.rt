@@ -191,7 +191,7 @@ fn own_row(alloc: Global) -> Result<List<Row>, Fail>
     Ok(one(alloc, row)?)
 }
 
-/// The same of the other table.
+/// A row of the first session on the root's life, alone, for the table of rows on no mode.
 fn life_row(alloc: Global) -> Result<List<Row>, Fail>
     ensures { IfOk result (λ rows. IsTable (with_rows rows [])) }
 {

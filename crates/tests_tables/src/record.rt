@@ -66,7 +66,8 @@ fn given_by(alloc: Global, dir: &FileId, next: u64, borne: u32) -> Result<u64, F
     number
 }
 
-/// The same of these records.
+/// The last number of the identifier that the directory gives in these records; 0 for `NoIds` and 4294967296 for
+/// `NoDir`.
 fn gift(alloc: Global, records: &mut Records, dir: &FileId, borne: u32) -> Result<u64, Fail> {
     let numbers = one(alloc, borne)?;
     let id = records.fresh(alloc, dir, &numbers);
@@ -259,7 +260,7 @@ fn has(rt: &impl Abort, alloc: Global, records: &Records, wanted: &str) -> Resul
     Ok(())
 }
 
-/// The same of records that are let go.
+/// The files of records that are let go are so written, with the record of each.
 fn had(rt: &impl Abort, alloc: Global, records: Records, wanted: &str) -> Result<(), Fail> {
     let done = has(rt, alloc, &records, wanted);
     spend(records);
@@ -367,7 +368,7 @@ fn make_together(alloc: Global, records: &mut Records) -> Result<(), Fail> {
     Ok(())
 }
 
-/// The same as one after the other.
+/// Effects done all at once come to what they come to one after the other.
 #[test]
 fn effects_are_done_together(rt: HostRuntime) -> Result<(), Fail> {
     let mut records = Records::new(rt.alloc(), true)?;

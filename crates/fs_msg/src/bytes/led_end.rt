@@ -12,7 +12,7 @@ use fs_record::LedEnd;
 use fs_wire::{ReadError, Wire, put_tag, put_tag_1, put_tag_3, tag_of};
 use std::alloc::{AllocError, Global};
 
-/// Adds the spelling of the end of a led operation at the end. Where memory is wanting, a part of it may stand there.
+/// Adds the spelling of the end of a led operation at the end. When out of memory, a part of it may stand there.
 #[tactic(auto, unfolding(crate::specs::Spelling::led_end))]
 pub fn put_led_end(e: &LedEnd, out: &mut Vec<u8>) -> Result<(), AllocError>
     ensures text { OnOk result (out.new.items ≡ out.old.items ++ led_end e.now) }

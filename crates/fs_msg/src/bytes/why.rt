@@ -10,7 +10,7 @@ use fs_record::Why;
 use fs_wire::{ReadError, Wire, put_tag, put_tag_1, put_tag_2, tag_of};
 use std::alloc::{AllocError, Global};
 
-/// Adds the spelling of a reason at the end. Where memory is wanting, a part of it may stand there.
+/// Adds the spelling of a reason at the end. When out of memory, a part of it may stand there.
 #[tactic(auto, unfolding(crate::specs::Spelling::why))]
 pub fn put_why(w: &Why, out: &mut Vec<u8>) -> Result<(), AllocError>
     ensures text { OnOk result (out.new.items ≡ out.old.items ++ why w.now) }

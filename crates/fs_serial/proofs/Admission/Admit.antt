@@ -1,11 +1,13 @@
 -- The server admits an entry: the parts of its own session.
-use Rattle.std.proofs.Common.{◌≡◌, ℕ, ◌+◌, ◌<◌, Bool, true, false, List, [], ◌∷◌, ◌++◌, ◌⊎◌, map, refl, sym, ap, ◌∙◌, subst, inl, inr, cond, append_assoc}
-use Rattle.std.specs.Prelude.{Option, Some, None}
+use Rattle.std.proofs.Common.{◌≡◌, ℕ, ◌+◌, ◌<◌, Bool, true, false, List, [], ◌∷◌, ◌++◌, ◌⊎◌, map, refl, sym, ap, ap₂, ◌∙◌, subst, inl, inr, cond, append_assoc}
+use Rattle.std.specs.Prelude.{Option, Some, None, is_some}
 use Rattle.std.specs.List.{list_any}
 use mathlib.Core.Path.{fun_ext}
 use Rattle.fs_ident.specs.In.{In}
 use Rattle.fs_ident.specs.Ident.{child}
 use Rattle.fs_ident.specs.declared.actor.Session.{Session}
+use Rattle.fs_ident.specs.declared.kind.Kind.{Kind}
+use Rattle.fs_ident.specs.declared.kind.Kind.TheVariants.{Dir}
 use Rattle.fs_ident.proofs.Standing.{In-map, In-mapped}
 use Rattle.fs_ident.proofs.Options.{not_some}
 use Rattle.fs_field.specs.declared.field.Field.{Field}
@@ -24,7 +26,7 @@ use Rattle.fs_view.specs.ViewLease.{makes}
 use Rattle.fs_view.specs.View.{value_after_all}
 use Rattle.fs_view.proofs.Seeing.{own_values}
 use Rattle.fs_client.specs.declared.led.Led.{Led}
-use Rattle.fs_serial.specs.Fresh.{made_by, or_else}
+use Rattle.fs_serial.specs.Fresh.{LivesTold, TellsLife, made, made_by, or_else}
 use Rattle.fs_serial.specs.Gone.{IsOfGone}
 use Rattle.fs_serial.specs.Leases.{IsBacked, LeasesBacked, LeasesTrue, LeasesDistinct, IsRowOf, IsFresh, FreshLeases}
 use Rattle.fs_serial.specs.Numbers.{items_by, all_items, AreNumbered}
@@ -36,7 +38,7 @@ use Rattle.fs_serial.specs.Sight.{Counts, Sight, sight_of}
 use Rattle.fs_serial.proofs.LedOperations.LedKept.{each_led}
 use Rattle.fs_serial.proofs.Admission.Answered.{answered, leads_there, sound_there, no_reap}
 use Rattle.fs_serial.proofs.Admission.Births.{life_after, makes_there}
-use Rattle.fs_serial.proofs.Lists.Journals.{each_image, items-own, serial_push, session_itself}
+use Rattle.fs_serial.proofs.Lists.Journals.{each_image, items-own, made-append, made_one, serial_push, session_itself}
 use Rattle.fs_serial.proofs.OtherSessions.Gone.{MakeAnew, gone_later, gone_then, made_more}
 
 -- ## Leases on new files
@@ -132,17 +134,42 @@ module _ (o : Counts) (skew greatest : ℕ) (s : Server) (journal : List Item) (
       let q = stays_below (list_any (makes (file_of l.field)) (effects_in by e)) l.below dir b in
       fresh_after by e l dir q.0 (f.fresh l i dir q.1))
 
+  -- a directory that it makes was not made before
+  makes_dir : MakeAnew by journal (e ∷ es) → (file : List ℕ) (life made_now : Option Kind) → made_by e.op e.reply file ≡ made_now → (life ≡ Some Dir → made journal file ≡ Some Dir)
+      → or_else made_now life ≡ Some Dir → made after.journal file ≡ Some Dir
+  makes_dir anew file life None m old is = made_one journal (item_of by e) file Dir (old is)
+  makes_dir anew file life (Some kind) m old is =
+      made-append journal (item_of by e) file ∙ ap (or_else (made journal file)) (m ∙ is)
+      ∙ ap (λ k. or_else k (Some Dir)) (not_made (made journal file) refl)
+    where
+      not_made : (k : Option Kind) → made journal file ≡ k → made journal file ≡ None
+      not_made None q = q
+      not_made (Some k) q =
+          let new : list_any (makes file) (effects_in by e) ≡ true = makes_there by e.op e.reply file ∙ ap is_some m in
+          let wrong : true ≡ false = sym new ∙ anew e (inl refl) file (ap is_some q) in
+          absurd (cc wrong)
+
+  lives : MakeAnew by journal (e ∷ es) → LivesTold after.journal then
+  lives anew = each_image (lease_after by (effects_in by e)) (λ l. (file : List ℕ) → l.field ≡ Life file → TellsLife after.journal file l.base) leases (λ l i file on.
+      let t : TellsLife journal file l.base = f.lives l i file on in
+      record {
+        life = or_else (made_by e.op e.reply file) t.life;
+        is = ap₂ (λ g v. value_after_all by g v (effects_in by e)) on t.is ∙ life_after by e.op e.reply file t.life;
+        dir = makes_dir anew file t.life (made_by e.op e.reply file) refl t.dir;
+      })
+
   held : UsesHeld then es
   held x i u j =
       let q : HasLease leases u = f.held x (inr i) u j in
       record { lease = lease_after by (effects_in by e) q.lease; held = In-mapped (lease_after by (effects_in by e)) q.lease leases q.held; number = q.number; field = q.field; kind = q.kind }
 
-  pub fits : SessionFits skew greatest after by (record { leases = then; log = es; next = next; over = None; led = led })
-  fits = record {
+  pub fits : MakeAnew by journal (e ∷ es) → SessionFits skew greatest after by (record { leases = then; log = es; next = next; over = None; led = led })
+  fits anew = record {
     given = each_image (lease_after by (effects_in by e)) _ leases f.given;
     distinct = distinct;
     matching = each_image (lease_after by (effects_in by e)) (λ l. (r : Row) → In r s.rows → r.no ≡ l.no → IsRowOf by l.field l.kind r) leases f.matching;
     fresh = fresh;
+    lives = lives anew;
     held = held;
     backed = λ x i. f.backed x (inr i);
     entries = λ x i. f.entries x (inr i);

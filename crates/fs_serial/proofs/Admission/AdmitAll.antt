@@ -124,7 +124,7 @@ module _ (o : Counts) (skew greatest : ℕ) (s : Server) (journal : List Item) (
 
   fitting : (x : Session) → SessionFits skew greatest after x (all x)
   fitting = each_session (λ x c. SessionFits skew greatest after x c) by then clients
-      (admit.fits o skew greatest s journal by (replied by) d.leases e a.rest d.next d.led stand h.servers h.kept holds fits)
+      (admit.fits o skew greatest s journal by (replied by) d.leases e a.rest d.next d.led stand h.servers h.kept holds fits anew)
       (λ x other. relied_fits skew greatest x (sight_of o s journal) after (clients x) (rely x other) (h.fitting x))
 
   -- fewer identifiers are reserved

@@ -4,6 +4,7 @@ use Rattle.std.specs.Cmp.{nat_eq_equiv}
 use Rattle.std.specs.List.{list_any}
 use Rattle.fs_ident.specs.In.{In}
 use Rattle.fs_ident.specs.declared.actor.Session.{Session}
+use Rattle.fs_ident.specs.declared.kind.Kind.TheVariants.{Dir}
 use Rattle.fs_field.specs.declared.asked.Need.{Need}
 use Rattle.fs_field.specs.declared.asked.Need.TheVariants as need
 use Rattle.fs_field.specs.declared.lease_kind.LeaseKind.{LeaseKind}
@@ -30,7 +31,7 @@ use Rattle.fs_serial.specs.Rows.{NoRowsConflict, PromisesKept}
 use Rattle.fs_serial.specs.Settled.{effects_in}
 use Rattle.fs_serial.specs.Sight.{Counts, sight_of}
 use Rattle.fs_serial.proofs.Admission.Answered.{answered, covered_there}
-use Rattle.fs_serial.proofs.Lists.Journals.{items-other}
+use Rattle.fs_serial.proofs.Lists.Journals.{items-other, made_one}
 use Rattle.fs_serial.proofs.OtherSessions.Gone.{gone_then, made_more}
 use Rattle.fs_serial.proofs.Grants.Promises.{other_stays}
 
@@ -82,6 +83,7 @@ module _ (o : Counts) (skew greatest : ℕ) (s : Server) (journal : List Item) (
     older = λ r i old. record { row = r; stood = i; number = refl; session = refl; field = refl; kind = refl };
     kept = λ r i own live. record { row = r; stands = i; number = refl; lasts = omega arith };
     values = λ r i old own. inr (same_value r i own);
+    dirs = λ file was. made_one journal (item_of by e) file Dir was;
     made = λ file was. made_more journal (item_of by e) file was;
     gone = λ file was none. gone_then s.records by e plain right sf.sound file (anew file was) none;
     items = items-other y journal (item_of by e) another;

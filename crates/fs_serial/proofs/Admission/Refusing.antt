@@ -42,6 +42,7 @@ module _ (skew greatest : ℕ) (s : Sight) (replied : Session → List Item) (en
         distinct = f.distinct;
         matching = f.matching;
         fresh = f.fresh;
+        lives = f.lives;
         held = f.held;
         backed = f.backed;
         entries = f.entries;
@@ -55,7 +56,7 @@ module _ (skew greatest : ℕ) (s : Sight) (replied : Session → List Item) (en
           among = q.0;
           gone = use_gone skew greatest s by (clients by) e u f (subst (λ es. In e es) (sym log) (inl refl)) q.0 q.1;
         };
-        led = each_led skew greatest greatest s s by (clients by) d (clients by).led (λ l is h. record { leads = h.leads; number = h.number; empty = h.empty; held = h.held; backed = h.backed; parts = h.parts; lives = h.lives; right = h.right }) f.led;
+        led = each_led skew greatest greatest s s by (clients by) d (clients by).led (λ l is h. record { leads = h.leads; number = h.number; empty = h.empty; held = h.held; backed = h.backed; parts = h.parts; home = h.home; lives = h.lives; right = h.right }) f.led;
       }
 
   still : (x : Session) → NoneAnew (clients x) (with_client by d clients x)

@@ -1,6 +1,6 @@
 -- A transaction that commits, once all parts have voted: all that holds of the world holds after it.
 use Rattle.std.proofs.Common.{◌≡◌, ◌⊎◌, ℕ, true, false, List, [], ◌∷◌, ◌++◌, map, cond, refl, sym, ap, ap₂, ◌∙◌, subst, inl, inr}
-use Rattle.std.specs.Prelude.{Some, None, slice_get}
+use Rattle.std.specs.Prelude.{Some, None, slice_get, Option}
 use Rattle.std.specs.List.{flat_map, list_any}
 use Rattle.fs_ident.specs.Ident.{same}
 use Rattle.fs_ident.specs.In.{In}
@@ -16,6 +16,7 @@ use Rattle.fs_field.specs.declared.lease_kind.LeaseKind.TheVariants.{Exclusive}
 use Rattle.fs_field.specs.declared.used.Part.{Part}
 use Rattle.fs_field.specs.declared.used.Use.{Use}
 use Rattle.fs_field.specs.declared.value.Value.{Value}
+use Rattle.fs_field.specs.declared.path.PathAnswer.{PathAnswer}
 use Rattle.fs_model.specs.Asking.{home_of}
 use Rattle.fs_model.specs.declared.op.Op.{Op}
 use Rattle.fs_model.specs.declared.op.Op.TheVariants as op
@@ -30,7 +31,7 @@ use Rattle.fs_server.specs.Concludes.{concludes}
 use Rattle.fs_server.specs.LeadingLaws.{CommitSplits}
 use Rattle.fs_server.specs.Server.{is_mine}
 use Rattle.fs_server.specs.declared.state.Server.{Server}
-use Rattle.fs_txn.specs.Deciding.{decision, first_end, reply_of}
+use Rattle.fs_txn.specs.Deciding.{commit, decision, first_end, needs_path, reply_of}
 use Rattle.fs_txn.specs.Leading.{own_effects, own_parts, said_by}
 use Rattle.fs_txn.specs.Locks.{Agreed}
 use Rattle.fs_txn.specs.Parts.{led_files, part_at, source_of, uses_on, with_file}
@@ -42,7 +43,7 @@ use Rattle.fs_view.specs.Gone.{known_with}
 use Rattle.fs_view.specs.Walk.{Known, always, walk}
 use Rattle.fs_serial.specs.Cluster.{Cluster}
 use Rattle.fs_serial.specs.Commits.{IsCommitted}
-use Rattle.fs_serial.specs.Conclusions.{after_concluded}
+use Rattle.fs_serial.specs.Conclusions.{TellsCycles, after_concluded}
 use Rattle.fs_serial.specs.Decided.{WorldStands}
 use Rattle.fs_serial.specs.Leading.{IsLeading, IsLedBy, LedHolds}
 use Rattle.fs_serial.specs.Led.{IsLeadAnswer, LedStands}
@@ -51,7 +52,7 @@ use Rattle.fs_serial.specs.Pending.{HasUse, IsCovered}
 use Rattle.fs_serial.specs.Words.{key_of, said_at}
 use Rattle.fs_serial.specs.World.{World, settled_at, sight_in}
 use Rattle.fs_serial.specs.Seen.{ClusterHolds, world_of}
-use Rattle.fs_serial.proofs.DecidedEffects.CommitSeen.{decision_is, own_on}
+use Rattle.fs_serial.proofs.DecidedEffects.CommitSeen.{own_on}
 use Rattle.fs_serial.proofs.DecidedEffects.CommitStands.{commit_stands, held_so}
 use Rattle.fs_serial.proofs.DecidedEffects.FileApart.{IsFileApart, file_apart}
 use Rattle.fs_serial.proofs.DecidedEffects.HeldSeen.{held_seen}
@@ -61,6 +62,7 @@ use Rattle.fs_serial.proofs.Transactions.FullCommits.{all_stand, full_commits}
 use Rattle.fs_serial.proofs.Transactions.Tables.{In_all, said_so}
 use Rattle.fs_serial.proofs.Transactions.Undecided.{up_led}
 use Rattle.fs_serial.proofs.Transactions.YesesStand.{session_stands}
+use Rattle.fs_serial.proofs.Transactions.Agreements.{IsClear}
 
 -- ## Files of an operation
 
@@ -137,7 +139,9 @@ module _ (values : Field → Value) (d : TheLed) (leads : is_led d.entry.op d.en
       subst (λ (x : Part). IsUsed x.uses x.file) (sym q.1.1) its
 
 module _ (k skew greatest : ℕ) (c : Cluster) (s : Server) (at : slice_get c.servers k ≡ Some s) (h : ClusterHolds skew greatest c)
-    (l : Leading) (there : In l s.leading) (yes : first_end l.leader.votes ≡ None) where
+    (l : Leading) (there : In l s.leading) (yes : first_end l.leader.votes ≡ None) (path : Option PathAnswer) (tells : TellsCycles c l path)
+    (clear : needs_path l.leader.mode l.leader.op ≡ true → IsClear l.leader path)
+    (decided_so : decision l.leader path ≡ commit l.leader (reply_of l.leader.op)) where
   here : In s c.servers
   here = In-got c.servers k s at
 
@@ -160,7 +164,7 @@ module _ (k skew greatest : ℕ) (c : Cluster) (s : Server) (at : slice_get c.se
   standing = session_stands k skew greatest c s at h l there d client
 
   committed : IsCommitted (sight_in w) by (settled_at by (ends_in c by)) d.entry d.file
-  committed = full_commits k skew greatest c s at h l there yes
+  committed = full_commits k skew greatest c s at h l there yes path tells clear
 
   pub answer : IsLeadAnswer (value_of (sight_in w).records by) d
   answer = standing.right (all_stand k skew greatest c s at h l there yes)
@@ -188,9 +192,9 @@ module _ (k skew greatest : ℕ) (c : Cluster) (s : Server) (at : slice_get c.se
 
   -- the law of a commit that is split by the servers of its parts
   module _ (splits : CommitSplits) where
-    pub own_files : AreOn (is_mine s) (own_effects s.me l (decision l.leader None))
-    own_files = subst (λ e. AreOn (is_mine s) (own_effects s.me l e)) (sym (decision_is k skew greatest c s at h l there yes))
-        (own_on k skew greatest c s at h l there yes splits away parted own)
+    pub own_files : AreOn (is_mine s) (own_effects s.me l (decision l.leader path))
+    own_files = subst (λ e. AreOn (is_mine s) (own_effects s.me l e)) (sym decided_so)
+        (own_on k skew greatest c s at h l there path decided_so splits away parted own)
       where
         away : same l.leader.file (home_of l.leader.op) ≡ false
         away = ap₂ (λ o f. same f (home_of o)) leads.leader.op leads.leader.file ∙ apart.0
@@ -198,13 +202,13 @@ module _ (k skew greatest : ℕ) (c : Cluster) (s : Server) (at : slice_get c.se
         parted : same l.leader.file (source_of l.leader.op) ≡ false
         parted = ap₂ (λ o f. same f (source_of o)) leads.leader.op leads.leader.file ∙ apart.1
 
-    pub commit_keeps : LedHolds (after_concluded k l s c) → WorldStands greatest
-        (world_of (concludes l [] s).server (after_concluded k l s c))
-    commit_keeps led = commit_stands k skew greatest c s at h l there yes
+    pub commit_keeps : LedHolds (after_concluded k l path s c) → WorldStands greatest
+        (world_of (concludes l path [] s).server (after_concluded k l path s c))
+    commit_keeps led = commit_stands k skew greatest c s at h l there path decided_so
         (up_led skew greatest c s here h by s here l there refl d leads.client.led) committed apart own splits led
 
     -- what all hold together is changed by the operation
-    pub held_after : LedHolds (after_concluded k l s c) → held_seen (after_concluded k l s c)
+    pub held_after : LedHolds (after_concluded k l path s c) → held_seen (after_concluded k l path s c)
         ≡ records_after_all (held_seen c) (led_effects l.leader.op l.leader.file (reply_of l.leader.op))
-    held_after led = held_so k skew greatest c s at h l there yes
+    held_after led = held_so k skew greatest c s at h l there path decided_so
         (up_led skew greatest c s here h by s here l there refl d leads.client.led) committed apart own splits led

@@ -1,6 +1,6 @@
 -- A leader commits: what all hold together is changed by the operation.
 use mathlib.Core.Path.{fun_ext}
-use Rattle.std.proofs.Common.{◌≡◌, ℕ, zero, suc, Bool, true, false, List, [], ◌∷◌, ◌++◌, map, cond, refl, sym, ap, ap₂, ◌∙◌}
+use Rattle.std.proofs.Common.{◌≡◌, ℕ, zero, suc, Bool, true, false, List, [], ◌∷◌, ◌++◌, map, refl, sym, ap, ap₂, ◌∙◌}
 use Rattle.std.specs.Prelude.{Option, Some, None, slice_get, unwrap_or}
 use Rattle.std.specs.List.{flat_map, list_any}
 use Rattle.fs_ident.specs.Ident.{same}
@@ -13,6 +13,7 @@ use Rattle.fs_field.specs.After.{changed_file}
 use Rattle.fs_field.specs.declared.effect.Effect.{Effect}
 use Rattle.fs_field.specs.declared.row.Row.{Row}
 use Rattle.fs_field.specs.declared.used.Part.{Part}
+use Rattle.fs_field.specs.declared.path.PathAnswer.{PathAnswer}
 use Rattle.fs_model.specs.Asking.{home_of}
 use Rattle.fs_parcel.proofs.Both.{passing}
 use Rattle.fs_record.specs.Applied.{records_after_all}
@@ -23,8 +24,8 @@ use Rattle.fs_server.specs.LeadingLaws.{CommitSplits, goes_from, has_effect}
 use Rattle.fs_server.specs.Server.{Stepped, is_mine}
 use Rattle.fs_server.specs.declared.state.Server.{Server}
 use Rattle.fs_txn.specs.Decided.{going, held_with, staying}
-use Rattle.fs_txn.specs.Deciding.{agreed, by_path, commit, decision, effects_on, first_end}
-use Rattle.fs_txn.specs.Deciding.{reply_of, told_effects, unless_ended}
+use Rattle.fs_txn.specs.Deciding.{commit, decision, effects_on}
+use Rattle.fs_txn.specs.Deciding.{reply_of, told_effects}
 use Rattle.fs_txn.specs.Grants.{effects_in}
 use Rattle.fs_txn.specs.Leading.{IsWholeLeader, elsewhere, own_effects, own_parts}
 use Rattle.fs_txn.specs.Parts.{parts_of, source_of}
@@ -64,7 +65,8 @@ goes_same me l d e h =
     each (Some p) = ap (λ f. same f p.file) h
 
 module _ (k skew greatest : ℕ) (c : Cluster) (s : Server) (at : slice_get c.servers k ≡ Some s) (h : ClusterHolds skew greatest c)
-    (l : Leading) (there : In l s.leading) (yes : first_end l.leader.votes ≡ None) where
+    (l : Leading) (there : In l s.leading) (path : Option PathAnswer)
+    (decision_is : decision l.leader path ≡ commit l.leader (reply_of l.leader.op)) where
   abbrev t : TxnNo
   t = l.leader.txn
 
@@ -81,19 +83,19 @@ module _ (k skew greatest : ℕ) (c : Cluster) (s : Server) (at : slice_get c.se
   goes = goes_from s.me l
 
   abbrev d : Decision
-  d = decision l.leader None
+  d = decision l.leader path
 
   abbrev out : List (ℕ × ℕ)
   out = elsewhere s.me l
 
   abbrev x : Stepped
-  x = concludes l [] s
+  x = concludes l path [] s
 
   abbrev y : Server
   y = x.server
 
   abbrev pub after : Cluster
-  after = after_concluded k l s c
+  after = after_concluded k l path s c
 
   abbrev pub all_records : RecordMap
   all_records = records_of_all c.servers (parcels_of c.in_flight)
@@ -103,12 +105,6 @@ module _ (k skew greatest : ℕ) (c : Cluster) (s : Server) (at : slice_get c.se
 
   leads : IsLeading c.lines s h.led.parts l
   leads = h.led.leading s here l there
-
-  -- all said Yes
-  pub decision_is : decision l.leader None ≡ committing
-  decision_is =
-      ap (λ o. unless_ended o (agreed l.leader None)) yes
-      ∙ ap (λ b. cond b (by_path l.leader None) (commit l.leader (reply_of l.leader.op))) leads.leader.mode
 
   pub parcels_then : parcels_of after.in_flight ≡ parcels_of c.in_flight
   parcels_then = decides.parcels_then k skew greatest c s at h l there d
@@ -132,7 +128,7 @@ module _ (k skew greatest : ℕ) (c : Cluster) (s : Server) (at : slice_get c.se
     abbrev split :
         ((m : RecordMap) → records_after_all m (own_effects s.me l committing) ≡ records_after_all m (staying goes all_effects))
         × (flat_map (λ (n : ℕ × ℕ). told_effects committing n.0) out ≡ going goes all_effects)
-    split = splits s.me l leads.led.entry.uses (reply_of l.leader.op) _ whole away parted decision_is
+    split = splits s.me l leads.led.entry.uses path (reply_of l.leader.op) _ whole away parted decision_is
 
     -- what the others are told is what goes
     pub told_going : flat_map (λ (n : ℕ × ℕ). told_effects committing n.0) (elsewhere s.me l) ≡ going goes all_effects

@@ -1,6 +1,6 @@
 -- A leader commits: all that holds of the world holds after it.
 use Rattle.std.proofs.Common.{◌≡◌, ℕ, true, false, not, Bool, List, [], ◌∷◌, ◌++◌, refl, sym, ap, ap₂, ◌∙◌, subst, inl, inr}
-use Rattle.std.specs.Prelude.{Some, None, is_some, slice_get}
+use Rattle.std.specs.Prelude.{Some, None, is_some, slice_get, Option}
 use Rattle.std.specs.FinMap.{get}
 use Rattle.std.proofs.lemmas.Bool.{not-true}
 use Rattle.fs_ident.specs.Ident.{same}
@@ -12,6 +12,7 @@ use Rattle.fs_field.specs.declared.effect.Effect.{Effect}
 use Rattle.fs_field.specs.declared.effect.Effect.TheVariants.{SetChild, SetParent, NewNode, RemoveNode, AddHandle, RemoveHandle, SetInfo}
 use Rattle.fs_field.specs.declared.row.Row.{Row}
 use Rattle.fs_field.specs.declared.used.Part.{Part}
+use Rattle.fs_field.specs.declared.path.PathAnswer.{PathAnswer}
 use Rattle.fs_model.specs.Asking.{home_of}
 use Rattle.fs_model.specs.Sound.{kind_of}
 use Rattle.fs_model.specs.Step.{children_of}
@@ -37,7 +38,7 @@ use Rattle.fs_server.specs.Leads.{led_item}
 use Rattle.fs_server.specs.Server.{is_mine}
 use Rattle.fs_server.specs.declared.state.Server.{Server}
 use Rattle.fs_txn.specs.Decided.{IsApart, going, held_with, staying}
-use Rattle.fs_txn.specs.Deciding.{commit, decision, first_end, reply_of}
+use Rattle.fs_txn.specs.Deciding.{commit, decision, reply_of}
 use Rattle.fs_txn.specs.Grants.{Decided, IsBare, effects_in}
 use Rattle.fs_txn.specs.Leading.{own_parts}
 use Rattle.fs_txn.specs.Parts.{source_of}
@@ -58,7 +59,7 @@ use Rattle.fs_serial.specs.Settled.{Settled}
 use Rattle.fs_serial.specs.Sight.{Sight}
 use Rattle.fs_serial.specs.Words.{decided_in}
 use Rattle.fs_serial.specs.World.{World, WorldHolds, settled_at, sight_in, with_answer, without_question}
-use Rattle.fs_serial.proofs.DecidedEffects.CommitSeen.{decided_is, decision_is, goes_same, held_is, is_relock}
+use Rattle.fs_serial.proofs.DecidedEffects.CommitSeen.{decided_is, goes_same, held_is, is_relock}
 use Rattle.fs_serial.proofs.DecidedEffects.CommitSeen.{records_are, relock, rows_are}
 use Rattle.fs_serial.proofs.DecidedEffects.DecideSeen.{StaysDecided, fits_again}
 use Rattle.fs_serial.proofs.DecidedEffects.DecidedOwed.{decided_owed}
@@ -92,7 +93,8 @@ goes_file (op.Rename sdir sname ddir dname) file f (inr (inr (inr z))) = absurd 
 goes_file o file f i = absurd i
 
 module _ (k skew greatest : ℕ) (c : Cluster) (s : Server) (at : slice_get c.servers k ≡ Some s) (h : ClusterHolds skew greatest c)
-    (l : Leading) (there : In l s.leading) (yes : first_end l.leader.votes ≡ None) where
+    (l : Leading) (there : In l s.leading) (path : Option PathAnswer)
+    (decided_so : decision l.leader path ≡ commit l.leader (reply_of l.leader.op)) where
   here : In s c.servers
   here = In-got c.servers k s at
 
@@ -112,10 +114,10 @@ module _ (k skew greatest : ℕ) (c : Cluster) (s : Server) (at : slice_get c.se
   w = world_of s c
 
   abbrev pub t : Server
-  t = (concludes l [] s).server
+  t = (concludes l path [] s).server
 
   abbrev pub then : Cluster
-  then = after_concluded k l s c
+  then = after_concluded k l path s c
 
   abbrev es : List Effect
   es = led_effects l.leader.op l.leader.file (reply_of l.leader.op)
@@ -138,16 +140,13 @@ module _ (k skew greatest : ℕ) (c : Cluster) (s : Server) (at : slice_get c.se
   pub effects_are : es ≡ effects_by d
   effects_are = ap₂ (λ o f. led_effects o f (reply_of o)) leads.leader.op leads.leader.file
 
-  decided_so : decision l.leader None ≡ commit l.leader (reply_of l.leader.op)
-  decided_so = decision_is k skew greatest c s at h l there yes
-
-  item_is : admitted_of (decision l.leader None) l.leader ≡ led_item by m ∷ []
+  item_is : admitted_of (decision l.leader path) l.leader ≡ led_item by m ∷ []
   item_is =
       ap (λ x. admitted_of x l.leader) decided_so
       ∙ ap₂ (λ n o. let i : Item = record { by = Client by; n = n; op = o; reply = reply_of o } in
       i ∷ []) leads.leader.number leads.leader.op
 
-  end_is : end.Done (reply_of m.op) ≡ end_of_decision (decision l.leader None)
+  end_is : end.Done (reply_of m.op) ≡ end_of_decision (decision l.leader path)
   end_is = ap (λ o. end.Done (reply_of o)) (sym leads.leader.op) ∙ sym (ap end_of_decision decided_so)
 
   module _ (up : (ends_in c by).up ≡ message.Lead m ∷ [])
@@ -162,14 +161,14 @@ module _ (k skew greatest : ℕ) (c : Cluster) (s : Server) (at : slice_get c.se
     parted = ap₂ (λ o f. same f (source_of o)) leads.leader.op leads.leader.file ∙ apart.1
 
     pub decided_then : decided_in then ≡ decided_in c ++ decided_for by (going sends es)
-    decided_then = decided_is k skew greatest c s at h l there yes splits away parted
+    decided_then = decided_is k skew greatest c s at h l there path decided_so splits away parted
 
     pub records_then : records_of_all then.servers (parcels_of then.in_flight) ≡ records_after_all records (staying sends es)
-    records_then = records_are k skew greatest c s at h l there yes splits away parted own
+    records_then = records_are k skew greatest c s at h l there path decided_so splits away parted own
 
     held_then : held_seen then ≡ held_with (effects_in (decided_in c ++ decided_for by (going sends es)))
         (records_after_all records (staying sends es))
-    held_then = held_is k skew greatest c s at h l there yes splits away parted own
+    held_then = held_is k skew greatest c s at h l there path decided_so splits away parted own
 
     pub split : IsSplit sends es
     split = record {
@@ -191,23 +190,23 @@ module _ (k skew greatest : ℕ) (c : Cluster) (s : Server) (at : slice_get c.se
     first = commit_past_all greatest w by m d sends s.txns up leads.client.led committed (subst (IsSplit sends) effects_are split) view
 
     abbrev change : Row → Row
-    change = at_home s (relock k skew greatest c s at h l there yes)
+    change = at_home s (relock k skew greatest c s at h l there path decided_so)
 
     abbrev second : World
     second = with_locks change (after_commit sends s.txns by m w)
 
     second_holds : WorldHolds greatest second
     second_holds =
-        relocked_holds change (home_relock s (relock k skew greatest c s at h l there yes) (is_relock k skew greatest c s at h l there yes))
+        relocked_holds change (home_relock s (relock k skew greatest c s at h l there path decided_so) (is_relock k skew greatest c s at h l there path decided_so))
         greatest (after_commit sends s.txns by m w) first
 
-    told_same : (y : Session) → second.ends y ≡ told k skew greatest c s at h l there (decision l.leader None) y
+    told_same : (y : Session) → second.ends y ≡ told k skew greatest c s at h l there (decision l.leader path) y
     told_same y = ap (λ e. with_answer by (answer.Led e) (without_question by (ends_in c)) y) end_is
 
     pub commit_holds : WorldHolds greatest (world_of t then)
     commit_holds =
         alike_holds greatest (record second { ends = ends_in then }) (world_of t then) (record {
-          rows = rows_are k skew greatest c s at h l there yes;
+          rows = rows_are k skew greatest c s at h l there path decided_so;
           records = held_then
               ∙ ap (λ es. held_with (effects_in (decided_in c ++ decided_for by (going sends es)))
               (records_after_all records (staying sends es)))
@@ -219,7 +218,7 @@ module _ (k skew greatest : ℕ) (c : Cluster) (s : Server) (at : slice_get c.se
           journal = ap (λ is. c.journal ++ is) item_is;
           replied = ap (λ is. with_items is c.replied) item_is;
           ends = λ y. refl;
-        }) view.0.clock (ends_hold k skew greatest c s at h l there (decision l.leader None) second told_same second_holds)
+        }) view.0.clock (ends_hold k skew greatest c s at h l there (decision l.leader path) second told_same second_holds)
 
     -- ## What is decided
 

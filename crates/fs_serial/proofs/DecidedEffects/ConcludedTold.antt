@@ -20,6 +20,7 @@ use Rattle.fs_field.specs.declared.lease_kind.LeaseKind.TheVariants.{Exclusive}
 use Rattle.fs_field.specs.declared.row.Row.{Row}
 use Rattle.fs_field.specs.declared.used.Part.{Part}
 use Rattle.fs_field.specs.declared.used.Use.{Use}
+use Rattle.fs_field.specs.declared.path.PathAnswer.{PathAnswer}
 use Rattle.fs_model.specs.Asking.{home_of}
 use Rattle.fs_model.specs.declared.op.Op.{Op}
 use Rattle.fs_model.specs.declared.op.Op.TheVariants as op
@@ -27,13 +28,12 @@ use Rattle.fs_msg.specs.declared.lead.Lead.{Lead as ToLead}
 use Rattle.fs_parcel.proofs.Both.{passing}
 use Rattle.fs_record.specs.LedEffects.{led_effects}
 use Rattle.fs_record.specs.ValueOf.{value_of}
-use Rattle.fs_record.specs.declared.led_end.LedEnd.{LedEnd}
 use Rattle.fs_client.specs.Led.{file_known, lead_of}
 use Rattle.fs_client.specs.declared.led.Led.{Led as TheLed}
 use Rattle.fs_server.specs.Begins.{parts_in}
 use Rattle.fs_server.specs.Concludes.{concludes, keeps_for}
 use Rattle.fs_server.specs.declared.state.Server.{Server}
-use Rattle.fs_txn.specs.Deciding.{agreed, commit, decision, effects_on, first_end, keeps_rows, reply_of, told_effects, unless_ended}
+use Rattle.fs_txn.specs.Deciding.{commit, decision, effects_on, first_end, keeps_rows, needs_path, reply_of, told_effects}
 use Rattle.fs_txn.specs.Guards.{is_enough}
 use Rattle.fs_txn.specs.Leading.{elsewhere, said_by}
 use Rattle.fs_txn.specs.Locks.{Agreed, rows_unlocked}
@@ -49,7 +49,7 @@ use Rattle.fs_view.specs.LedLaws.{IsLed}
 use Rattle.fs_view.specs.Walk.{Known, always, walk}
 use Rattle.fs_serial.specs.Cluster.{Cluster}
 use Rattle.fs_serial.specs.Commits.{IsCommitted}
-use Rattle.fs_serial.specs.Conclusions.{after_concluded}
+use Rattle.fs_serial.specs.Conclusions.{TellsCycles, after_concluded}
 use Rattle.fs_serial.specs.Leading.{HasLockFor, IsCoveredBy, IsLeading, IsLedBy, IsToldOf}
 use Rattle.fs_serial.specs.Led.{IsLeadAnswer, LedStands}
 use Rattle.fs_serial.specs.Owed.{ends_in}
@@ -58,7 +58,6 @@ use Rattle.fs_serial.specs.Sight.{Sight}
 use Rattle.fs_serial.specs.Words.{key_of, rows_at, telling_of}
 use Rattle.fs_serial.specs.World.{settled_at, sight_in}
 use Rattle.fs_serial.specs.Seen.{ClusterHolds, world_of}
-use Rattle.fs_serial.proofs.DecidedEffects.CommitSeen.{decision_is}
 use Rattle.fs_serial.proofs.DecidedEffects.DecisionSeen as decides
 use Rattle.fs_serial.proofs.DecidedEffects.FileApart.{IsFileApart, file_apart}
 use Rattle.fs_serial.proofs.DecidedEffects.ToldCovered.{HasNewName, each_covered, enough_so, few_on}
@@ -73,13 +72,14 @@ use Rattle.fs_serial.proofs.Transactions.Tables.{In_all}
 use Rattle.fs_serial.proofs.Transactions.YesElsewhere.{IsReadyElsewhere, yes_elsewhere}
 use Rattle.fs_serial.proofs.Transactions.YesesStand.{session_stands}
 use Rattle.fs_serial.proofs.Transactions.YesParts.{IsSaidHere, said_in}
+use Rattle.fs_serial.proofs.Transactions.Agreements.{Decides, IsClear, aborts, carries, cycle_tells_none, cycles, decides_so}
 
 first_there : {X : Type 0} (xs : List X) (x : X) → In x xs → is_some (slice_get xs 0) ≡ true
 first_there [] x i = absurd i
 first_there (y ∷ ys) x i = refl
 
 module _ (k skew greatest : ℕ) (c : Cluster) (s : Server) (at : slice_get c.servers k ≡ Some s) (h : ClusterHolds skew greatest c)
-    (l : Leading) (there : In l s.leading) where
+    (l : Leading) (there : In l s.leading) (path : Option PathAnswer) (tells : TellsCycles c l path) where
   abbrev t : TxnNo
   t = l.leader.txn
 
@@ -87,16 +87,16 @@ module _ (k skew greatest : ℕ) (c : Cluster) (s : Server) (at : slice_get c.se
   by = l.leader.session
 
   abbrev d : Decision
-  d = decision l.leader None
+  d = decision l.leader path
 
   abbrev pub out : List (ℕ × ℕ)
   out = elsewhere s.me l
 
   abbrev y : Server
-  y = (concludes l [] s).server
+  y = (concludes l path [] s).server
 
   abbrev pub after : Cluster
-  after = after_concluded k l s c
+  after = after_concluded k l path s c
 
   abbrev here : In s c.servers
   here = In-got c.servers k s at
@@ -142,10 +142,6 @@ module _ (k skew greatest : ℕ) (c : Cluster) (s : Server) (at : slice_get c.se
   stands : LedStands skew greatest now by (settled_at by (ends_in c by)) it
   stands = session_stands k skew greatest c s at h l there it client
 
-  -- where nothing is committed nothing is told
-  pub none_told : (x : ℕ × ℕ) (f : LedEnd) → first_end l.leader.votes ≡ Some f → told_effects d x.0 ≡ []
-  none_told x f e = ap (λ q. told_effects (unless_ended q (agreed l.leader None)) x.0) e
-
   -- ## A part elsewhere
 
   module _ (x : ℕ × ℕ) (i : In x out) where
@@ -174,10 +170,8 @@ module _ (k skew greatest : ℕ) (c : Cluster) (s : Server) (at : slice_get c.se
     off_home = parts_apart l.leader.mode m 0 x.0 (part_at l.leader.mode o it.file it.entry.uses (home_of o)) r.part
         (not_first (0 == x.0) refl) (first_part l.leader.mode m) part_there
 
-    module _ (yes : first_end l.leader.votes ≡ None) where
-      abbrev decided : d ≡ commit l.leader (reply_of l.leader.op)
-      decided = decision_is k skew greatest c s at h l there yes
-
+    module _ (yes : first_end l.leader.votes ≡ None) (clear : needs_path l.leader.mode l.leader.op ≡ true → IsClear l.leader path)
+        (decided : d ≡ commit l.leader (reply_of l.leader.op)) where
       pub told_is : told_effects d x.0 ≡ effects_on its_effects r.part.file
       told_is =
           let all = led_effects l.leader.op l.leader.file (reply_of l.leader.op) in
@@ -186,7 +180,7 @@ module _ (k skew greatest : ℕ) (c : Cluster) (s : Server) (at : slice_get c.se
           ∙ ap₂ (λ z f. effects_on (led_effects z f (reply_of z)) r.part.file) leads.leader.op leads.leader.file
 
       commits : IsCommitted now by (settled_at by (ends_in c by)) it.entry it.file
-      commits = full_commits k skew greatest c s at h l there yes
+      commits = full_commits k skew greatest c s at h l there yes path tells clear
 
       answers : IsLeadAnswer (value_of now.records by) it
       answers = stands.right (all_stand k skew greatest c s at h l there yes)
@@ -271,14 +265,25 @@ module _ (k skew greatest : ℕ) (c : Cluster) (s : Server) (at : slice_get c.se
             placed = q.placed;
           })
 
-  pub few_new : (x : ℕ × ℕ) → In x out → (q : Option LedEnd) → first_end l.leader.votes ≡ q → length (told_effects d x.0) ≤ 1
-  few_new x i None e = few_yes x i e
-  few_new x i (Some f) e = subst (λ es. length es ≤ 1) (sym (none_told x f e)) (omega arith)
+  how : Decides l.leader path
+  how = decides_so l.leader it.kind path leads.leader.mode
 
-  pub told_new : (x : ℕ × ℕ) → In x out → (e : Effect) → In e (told_effects d x.0) → (q : Option LedEnd) → first_end l.leader.votes ≡ q
+  few_by : (x : ℕ × ℕ) → In x out → Decides l.leader path → length (told_effects d x.0) ≤ 1
+  few_by x i (carries none clear is) = few_yes x i none clear is
+  few_by x i (cycles none n on is) =
+      subst (λ es. length es ≤ 1) (sym (ap (λ q. told_effects q x.0) is ∙ cycle_tells_none l.leader x.0)) (omega arith)
+  few_by x i (aborts f is) = subst (λ es. length es ≤ 1) (sym (ap (λ q. told_effects q x.0) is)) (omega arith)
+
+  told_by : (x : ℕ × ℕ) → In x out → (e : Effect) → In e (told_effects d x.0) → Decides l.leader path
       → IsToldOf after.servers (key_of t x.0) (h.led.parts (key_of t x.0)) e
-  told_new x i e j None p = told_yes x i p e j
-  told_new x i e j (Some f) p = absurd (subst (In e) (none_told x f p) j)
+  told_by x i e j (carries none clear is) = told_yes x i none clear is e j
+  told_by x i e j (cycles none n on is) =
+      absurd (subst (In e) (ap (λ q. told_effects q x.0) is ∙ cycle_tells_none l.leader x.0) j)
+  told_by x i e j (aborts f is) = absurd (subst (In e) (ap (λ q. told_effects q x.0) is) j)
+
+  pub told_new : (x : ℕ × ℕ) → In x out → (e : Effect) → In e (told_effects d x.0)
+      → IsToldOf after.servers (key_of t x.0) (h.led.parts (key_of t x.0)) e
+  told_new x i e j = told_by x i e j how
 
   pub concluded_few : (key : Key) (to : ℕ) (effects : List Effect) → In (word_to key to (Decide effects)) (telling_of after.in_flight)
       → length effects ≤ 1
@@ -290,7 +295,7 @@ module _ (k skew greatest : ℕ) (c : Cluster) (s : Server) (at : slice_get c.se
             let q = In-map (decision_word k t d) (word_to key to (Decide effects)) out new in
             let word : Decide effects ≡ Decide (told_effects d (q.0).0) = ap (λ (z : Told). z.word) q.1.1 in
             let is : effects ≡ told_effects d (q.0).0 = cc in
-            subst (λ es. length es ≤ 1) (sym is) (few_new q.0 q.1.0 (first_end l.leader.votes) refl)
+            subst (λ es. length es ≤ 1) (sym is) (few_by q.0 q.1.0 how)
       ]
 
   -- ## What was told before
@@ -316,5 +321,5 @@ module _ (k skew greatest : ℕ) (c : Cluster) (s : Server) (at : slice_get c.se
             let word : Decide effects ≡ Decide (told_effects d (q.0).0) = ap (λ (z : Told). z.word) q.1.1 in
             let is : effects ≡ told_effects d (q.0).0 = cc in
             subst (λ z. IsToldOf after.servers z (h.led.parts z) e) (sym (ap (λ (z : Told). z.key) q.1.1))
-            (told_new q.0 q.1.0 e (subst (In e) is j) (first_end l.leader.votes) refl)
+            (told_new q.0 q.1.0 e (subst (In e) is j))
       ]

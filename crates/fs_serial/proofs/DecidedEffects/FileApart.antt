@@ -1,20 +1,17 @@
 -- A file that moves or goes is none of the directories of its names.
-use Rattle.std.proofs.Common.{◌≡◌, ℕ, suc, ◌&&◌, ◌||◌, Bool, true, false, not, List, [], ◌∷◌, refl, sym, ap, ◌∙◌, subst, cond}
-use Rattle.std.specs.Prelude.{Option, Some, None, is_some}
+use Rattle.std.proofs.Common.{◌≡◌, ℕ, suc, ◌&&◌, ◌||◌, Bool, true, false, not, List, [], ◌∷◌, refl, sym, ap, ◌∙◌}
+use Rattle.std.specs.Prelude.{Option, Some, None}
 use Rattle.std.specs.Option.{option_map_or}
 use Rattle.std.specs.FinMap.{get, len}
 use Rattle.fs_ident.specs.Ident.{same}
 use Rattle.fs_ident.specs.declared.actor.Session.{Session}
-use Rattle.fs_ident.specs.declared.kind.Kind.{Kind}
-use Rattle.fs_ident.specs.declared.kind.Kind.TheVariants.{File, Dir}
 use Rattle.fs_ident.proofs.Booleans.{neither}
 use Rattle.fs_ident.proofs.Same.{same_is, same_self}
-use Rattle.fs_model.specs.Ancestors.{ancestors, ancestors_within, directory_of, is_among, is_on_chain}
+use Rattle.fs_model.specs.Ancestors.{ancestors, ancestors_within, directory_of, is_among}
 use Rattle.fs_model.specs.Asking.{home_of}
-use Rattle.fs_model.specs.Children.{child_at}
 use Rattle.fs_model.specs.Namespace.{NodeMap}
 use Rattle.fs_model.specs.Sound.{IsSound, child_of, parent_of}
-use Rattle.fs_model.specs.Step.{Stepped, denies_delete, rename, rename_child, rename_in, rename_to, rename_to_dir, reply_alone, with_moved_node}
+use Rattle.fs_model.specs.Step.{rename}
 use Rattle.fs_model.specs.declared.node.Node.{Node}
 use Rattle.fs_model.specs.declared.op.Op.{Op}
 use Rattle.fs_model.specs.declared.op.Op.TheVariants as op
@@ -26,7 +23,7 @@ use Rattle.fs_record.specs.Records.{RecordMap, nodes_of}
 use Rattle.fs_txn.specs.Parts.{source_of}
 use Rattle.fs_view.specs.LedLaws.{IsLed}
 use Rattle.fs_serial.proofs.Lists.Journals.{same_symm}
-use Rattle.fs_serial.proofs.LedOperations.Cycles.{past}
+use Rattle.fs_serial.proofs.LedOperations.Cycles.{off_chain}
 
 -- the file is neither the directory of the operation's home nor the one that it leaves
 abbrev pub IsFileApart : Op → List ℕ → Type 0
@@ -54,42 +51,12 @@ off_directory m dir name file sound named = go (same file dir) refl
         let wrong : true ≡ false = sym listed ∙ own_ancestor m file sound in absurd (cc)
 
 -- nor is it the directory to which it goes: this would be a cycle
-module _ (m : NodeMap) (sdir sname ddir dname file : List ℕ) (other : (same sdir ddir && same sname dname) ≡ false) where
-  abbrev onward : Node → Stepped
-  onward d = cond (is_some (child_at d.children dname)) (reply_alone m reply.Exists)
-      (cond (denies_delete (get m file)) (reply_alone m reply.Sharing)
-      (cond (is_on_chain m file ddir) (reply_alone m reply.Cycle)
-      (record { reply = reply.Renamed; nodes = with_moved_node m file sdir sname ddir dname })))
-
-  child_off : (d : Node) → (rename_child m sdir sname d ddir dname (Some file)).reply ≡ reply.Renamed → is_on_chain m file ddir ≡ false
-  child_off d h =
-      let p : (onward d).reply ≡ reply.Renamed =
-      subst (λ b. (cond b (reply_alone m reply.Renamed) (onward d)).reply ≡ reply.Renamed) other h in
-      let q = past m (is_some (child_at d.children dname)) reply.Exists reply.Renamed _ (λ e. absurd (cc)) p in
-      let r = past m (denies_delete (get m file)) reply.Sharing reply.Renamed _ (λ e. absurd (cc)) q.1 in
-      (past m (is_on_chain m file ddir) reply.Cycle reply.Renamed _ (λ e. absurd (cc)) r.1).0
-
-  to_off : (s : Node) (o : Option Node) → child_at s.children sname ≡ Some file
-      → (rename_to m s sdir sname o ddir dname).reply ≡ reply.Renamed → is_on_chain m file ddir ≡ false
-  to_off s None c h = absurd (cc)
-  to_off s (Some d) c h = by d.kind h
-    where
-      by : (k : Kind) → (rename_to_dir k m s sdir sname d ddir dname).reply ≡ reply.Renamed → is_on_chain m file ddir ≡ false
-      by File g = absurd (cc)
-      by Dir g = child_off d (subst (λ x. (rename_child m sdir sname d ddir dname x).reply ≡ reply.Renamed) c g)
-
-  off_chain : (o : Option Node) → child_of o sname ≡ Some file → (rename o m sdir sname ddir dname).reply ≡ reply.Renamed
-      → is_on_chain m file ddir ≡ false
-  off_chain None c h = absurd (cc)
-  off_chain (Some s) c h = by s.kind h
-    where
-      by : (k : Kind) → (rename_in k m s sdir sname ddir dname).reply ≡ reply.Renamed → is_on_chain m file ddir ≡ false
-      by File g = absurd (cc)
-      by Dir g = to_off s (get m ddir) c g
-
-  off_target : child_of (get m sdir) sname ≡ Some file → (rename (get m sdir) m sdir sname ddir dname).reply ≡ reply.Renamed
-      → same file ddir ≡ false
-  off_target c h = same_symm file ddir ∙ (neither (same ddir file) (is_among file (ancestors m ddir)) (off_chain (get m sdir) c h)).0
+off_target : (m : NodeMap) (sdir sname ddir dname file : List ℕ) → (same sdir ddir && same sname dname) ≡ false
+    → child_of (get m sdir) sname ≡ Some file → (rename (get m sdir) m sdir sname ddir dname).reply ≡ reply.Renamed → same file ddir ≡ false
+off_target m sdir sname ddir dname file other c h =
+    same_symm file ddir
+    ∙ (neither (same ddir file) (is_among file (ancestors m ddir))
+    (off_chain m sdir sname ddir dname file other (get m sdir) c h)).0
 
 elsewhere : (b : Bool) → not b ≡ true → b ≡ false
 elsewhere true h = absurd (cc)

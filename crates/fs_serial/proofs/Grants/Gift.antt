@@ -218,7 +218,7 @@ module _ (o : Counts) (by : Session) (dir : List ℕ) (k : ℕ) (a : Asking) (jo
         servers = gift_holds o by dir k a journal stored least.free all.servers;
         kept = gift_fits o by dir k a journal stored least.free sound all.kept;
         sessions = each_session (λ x d. SessionHolds skew greatest second x (replied x) d) by (with_leases (given ∷ []) (clients by)) clients (leased_holds skew greatest by second (clients by) given (new all) (fits by) (replied by) (holds by)) (λ x other. holds x);
-        fitting = each_session (λ x d. SessionFits skew greatest second x d) by (with_leases (given ∷ []) (clients by)) clients (leased_fits skew greatest by second (clients by) given (new all) (fits by)) (λ x other. fits x);
+        fitting = each_session (λ x d. SessionFits skew greatest second x d) by (with_leases (given ∷ []) (clients by)) clients (leased_fits skew greatest by second (clients by) given (new all) (fits by) (gift_fits o by dir k a journal stored least.free sound all.kept).made) (λ x other. fits x);
         reserved = reserved_still stored journal dir k here least.from made (reserved_by clients) (reserved_by (with_client by (with_given by dir k a.server (clients by)) clients)) by (next_number a.server) (reserved_then clients by given) all.reserved;
       }
 

@@ -1,10 +1,11 @@
 -- One row more, and one lease more.
-use Rattle.std.proofs.Common.{◌≡◌, ℕ, ◌+◌, ◌<◌, ◌≤◌, Bool, true, false, cond, List, [], ◌∷◌, ◌++◌, refl, sym, ap, subst, ◌⊎◌, inl, inr, arith}
+use Rattle.std.proofs.Common.{◌≡◌, ℕ, ◌+◌, ◌<◌, ◌≤◌, Bool, true, false, cond, List, [], ◌∷◌, ◌++◌, refl, sym, ap, ◌∙◌, subst, ◌⊎◌, inl, inr, arith}
 use Rattle.std.specs.FinMap.{get}
 use Rattle.std.specs.Prelude.{Some, ◌≢◌}
 use Rattle.fs_ident.specs.In.{In}
 use Rattle.fs_ident.specs.Ordered.{put_before}
 use Rattle.fs_ident.specs.declared.actor.Session.{Session}
+use Rattle.fs_ident.specs.declared.kind.Kind.TheVariants.{Dir}
 use Rattle.fs_ident.proofs.Standing.{In-put, In-front}
 use Rattle.fs_field.specs.declared.field.Field.{Field}
 use Rattle.fs_field.specs.declared.field.Field.TheVariants.{Life}
@@ -15,7 +16,7 @@ use Rattle.fs_model.specs.Sound.{kind_of}
 use Rattle.fs_msg.specs.declared.item.Item.{Item}
 use Rattle.fs_record.specs.Records.{node_of}
 use Rattle.fs_record.specs.ValueOf.{value_of}
-use Rattle.fs_serial.specs.Fresh.{IsMade}
+use Rattle.fs_serial.specs.Fresh.{IsMade, NodesMade, TellsLife, made}
 use Rattle.fs_serial.specs.Gone.{IsOfGone}
 use Rattle.fs_serial.specs.Leases.{IsBacked, IsRowOf, IsFresh}
 use Rattle.fs_serial.specs.Numbers.{items_by}
@@ -52,6 +53,7 @@ row_relied skew greatest by s t row rows new given values journal = record {
   ];
   kept = λ r i own late. record { row = r; stands = subst (λ rs. In r rs) (sym rows) (In-put_still (λ x. no_before row.no x.no) r row s.rows i); number = refl; lasts = omega arith };
   values = λ r i g own. inr (values r.field);
+  dirs = λ file was. ap (λ j. made j file) journal ∙ was;
   made = λ file was. subst (λ j. IsMade j file) (sym journal) was;
   gone = λ file was none. let life : value.Life (kind_of (node_of (get t.records file))) ≡ value.Life (kind_of (node_of (get s.records file))) = values (Life file) in still_gone s.records t.records file (cc life) none;
   items = ap (items_by by) journal;
@@ -74,12 +76,20 @@ module _ (skew greatest : ℕ) (by : Session) (t : Sight) (d : Settled) (l : Lea
       (λ j i. each_more (λ (k : Lease). j.no ≡ k.no → j ≡ k) d.leases l (λ k h e. f.distinct j k i h e) (λ e. absurd (fits.new j i e)))
       (each_more (λ (k : Lease). l.no ≡ k.no → l ≡ k) d.leases l (λ k h e. absurd (fits.new k h (sym e))) (λ e. refl))
 
-  pub leased_fits : SessionFits skew greatest t by (with_leases (l ∷ []) d)
-  leased_fits = record {
+  -- what it tells of a file that lives was made
+  new_tells : NodesMade t.records t.journal → (file : List ℕ) → l.field ≡ Life file → TellsLife t.journal file l.base
+  new_tells nodes file on = elim fits.told as (λ _. TellsLife t.journal file l.base) [
+    | inl gone ↦ absurd (subst (IsOfGone t.records t.journal) on gone)
+    | inr told ↦ record { life = kind_of (node_of (get t.records file)); is = told ∙ ap (value_of t.records by) on; dir = nodes file Dir }
+  ]
+
+  pub leased_fits : NodesMade t.records t.journal → SessionFits skew greatest t by (with_leases (l ∷ []) d)
+  leased_fits nodes = record {
     given = each_more (λ (k : Lease). IsGiven t.given k.no) d.leases l f.given fits.given;
     distinct = λ j k i h. distinct j i k h;
     matching = each_more (λ (k : Lease). (r : Row) → In r t.rows → r.no ≡ k.no → IsRowOf by k.field k.kind r) d.leases l f.matching fits.own;
     fresh = each_more (λ (k : Lease). (dir : List ℕ) → k.below ≡ Some dir → IsFresh dir k) d.leases l f.fresh fits.fresh;
+    lives = each_more (λ (k : Lease). (file : List ℕ) → k.field ≡ Life file → TellsLife t.journal file k.base) d.leases l f.lives (new_tells nodes);
     held = λ e h u i. let q = f.held e h u i in record { lease = q.lease; held = In-front q.lease d.leases (l ∷ []) q.held; number = q.number; field = q.field; kind = q.kind };
     backed = f.backed;
     entries = f.entries;
@@ -92,6 +102,7 @@ module _ (skew greatest : ℕ) (by : Session) (t : Sight) (d : Settled) (l : Lea
       held = λ e i u j. let q = h.held e i u j in record { lease = q.lease; held = In-front q.lease d.leases (l ∷ []) q.held; number = q.number; field = q.field; kind = q.kind };
       backed = h.backed;
       parts = h.parts;
+      home = h.home;
       lives = h.lives;
       right = h.right;
     }) f.led;

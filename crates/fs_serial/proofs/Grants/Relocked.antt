@@ -56,6 +56,7 @@ row_relocked skew greatest s clients f same =
             record { row = q.0; stood = q.1.0; number = sym (ap (λ (y : Row). y.no) q.1.1 ∙ t.number); session = sym (ap (λ (y : Row). y.session) q.1.1 ∙ t.session); field = sym (ap (λ (y : Row). y.field) q.1.1 ∙ t.field); kind = sym (ap (λ (y : Row). y.kind) q.1.1 ∙ t.kind) };
         kept = λ l h r i e late. let until = (same r).until in record { row = f r; stands = In-mapped f r s.rows i; number = (same r).tells.number; lasts = omega arith };
         values = λ r i g own. inr refl;
+        dirs = λ file was. was;
         made = λ file was. was;
         gone = λ file was none. none;
         items = refl;

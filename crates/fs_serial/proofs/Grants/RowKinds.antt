@@ -51,6 +51,7 @@ fewer_rows skew greatest s clients test stays = record {
     older = λ r i g. record { row = r; stood = In-filter test r s.rows i; number = refl; session = refl; field = refl; kind = refl };
     kept = λ l h r i e late. record { row = r; stands = In-kept test r s.rows i (stays x l h r i e late); number = refl; lasts = omega arith };
     values = λ r i g own. inr refl;
+    dirs = λ file was. was;
     made = λ file was. was;
     gone = λ file was none. none;
     items = refl;
@@ -124,6 +125,7 @@ row_renewed skew greatest s clients n until =
             record { row = q.0; stood = q.1.0; number = sym (ap (λ (y : Row). y.no) q.1.1 ∙ same.number); session = sym (ap (λ (y : Row). y.session) q.1.1 ∙ same.session); field = sym (ap (λ (y : Row). y.field) q.1.1 ∙ same.field); kind = sym (ap (λ (y : Row). y.kind) q.1.1 ∙ same.kind) };
         kept = λ l h r i e late. record { row = renewed_row n until r; stands = In-mapped (renewed_row n until) r s.rows i; number = (renewed_same n until r).number; lasts = ends_no_sooner n until r };
         values = λ r i g own. inr refl;
+        dirs = λ file was. was;
         made = λ file was. was;
         gone = λ file was none. none;
         items = refl;

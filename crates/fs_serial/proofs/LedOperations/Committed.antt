@@ -1,5 +1,5 @@
 -- A led operation commits: what others rely on, and all parts.
-use Rattle.std.proofs.Common.{◌≡◌, ℕ, ◌+◌, ◌<◌, ◌==◌, not, Bool, true, false, List, [], ◌∷◌, ◌++◌, ◌⊎◌, refl, sym, ap, ◌∙◌, subst, inl, inr, cond, append-nil, arith}
+use Rattle.std.proofs.Common.{◌≡◌, ℕ, ◌+◌, ◌<◌, ◌==◌, not, Bool, true, false, List, [], ◌∷◌, ◌++◌, ◌⊎◌, refl, sym, ap, ap₂, ◌∙◌, subst, inl, inr, cond, append-nil, arith}
 use Rattle.std.specs.Prelude.{Option, Some, None, is_some}
 use Rattle.std.specs.FinMap.{get}
 use Rattle.std.specs.List.{list_any}
@@ -8,6 +8,7 @@ use Rattle.fs_ident.specs.In.{In}
 use Rattle.fs_ident.specs.Ident.{child, same}
 use Rattle.fs_ident.specs.declared.actor.Session.{Session}
 use Rattle.fs_ident.specs.declared.kind.Kind.{Kind}
+use Rattle.fs_ident.specs.declared.kind.Kind.TheVariants.{Dir}
 use Rattle.fs_ident.proofs.Same.{one_session}
 use Rattle.fs_ident.proofs.Standing.{In-map}
 use Rattle.fs_field.specs.Field.{file_of}
@@ -43,7 +44,7 @@ use Rattle.fs_view.specs.View.{value_after_all}
 use Rattle.fs_view.specs.Walk.{always, known_in, walk}
 use Rattle.fs_view.proofs.LedValues.{led_follows, led_handles, led_lives, led_stays}
 use Rattle.fs_serial.specs.Commits.{CommitIsRelied, CommitKeepsParts, IsCommitted, effects_led, with_commit, with_led}
-use Rattle.fs_serial.specs.Fresh.{Claim, FreshReserved, IsMade, NodesMade, Reserved, made, made_by, or_else, reserved_by}
+use Rattle.fs_serial.specs.Fresh.{Claim, FreshReserved, IsMade, LivesTold, NodesMade, TellsLife, Reserved, made, made_by, or_else, reserved_by}
 use Rattle.fs_serial.specs.Gone.{IsOfGone}
 use Rattle.fs_serial.specs.Leases.{FreshLeases, IsBacked, IsFresh, IsRowOf, LeasesDistinct, LeasesTrue}
 use Rattle.fs_serial.specs.Numbers.{AreNumbered, all_items, items_by}
@@ -58,7 +59,7 @@ use Rattle.fs_serial.proofs.Admission.Admit.{stays_below}
 use Rattle.fs_serial.proofs.Admission.AdmitAll.{fewer_anew}
 use Rattle.fs_serial.proofs.Grants.Claims.{NoneAnew, Was, none_anew}
 use Rattle.fs_serial.proofs.Admission.AdmitOthers.{no_item_meets}
-use Rattle.fs_serial.proofs.Lists.Journals.{each_image, items-other, items-own, known_nodes, made-append, made_before, nodes_all, or_none, reaps-still, serial_push, session_itself}
+use Rattle.fs_serial.proofs.Lists.Journals.{each_image, items-other, items-own, known_nodes, made-append, made_before, made_one, nodes_all, or_none, reaps-still, serial_push, session_itself}
 use Rattle.fs_serial.proofs.OtherSessions.Gone.{all_anew, gone_later, made_more}
 use Rattle.fs_serial.proofs.OtherSessions.Relied.{relied_fits, relied_holds}
 use Rattle.fs_serial.proofs.Replies.Reply.{number_more}
@@ -82,6 +83,16 @@ makes_none o r id h = refl
 unless_same : (b : Bool) → cond {A = Option Kind} b None None ≡ None
 unless_same true = refl
 unless_same false = refl
+
+kept_dir : (b : Bool) (l : Option Kind) → cond b None l ≡ Some Dir → l ≡ Some Dir
+kept_dir true l h = absurd (cc)
+kept_dir false l h = h
+
+-- a directory that lives then lived before
+lived_led : (by : Session) (o : Op) (file : List ℕ) (r : Reply) (id : List ℕ) (l : Option Kind) → (k : Option Kind) × ((value_after_all by (Life id) (value.Life l) (led_effects o file r) ≡ value.Life k) × (k ≡ Some Dir → l ≡ Some Dir))
+lived_led by (op.Delete dir name) file reply.Deleted id l = (cond (same id file) None l, (refl, kept_dir (same id file) l))
+lived_led by (op.Rename sdir sname ddir dname) file reply.Renamed id l = (l, (refl, λ e. e))
+lived_led by o file r id l = (l, (refl, λ e. e))
 
 -- what does not live lives no more then
 unborn_led : (by : Session) (o : Op) (file : List ℕ) (r : Reply) (id : List ℕ) → value_after_all by (Life id) (value.Life None) (led_effects o file r) ≡ value.Life None
@@ -177,6 +188,7 @@ module _ (skew greatest : ℕ) (s : Sight) (by : Session) (d : Settled) (e : Ent
     older = λ r i old. record { row = r; stood = i; number = refl; session = refl; field = refl; kind = refl };
     kept = λ r i own live. record { row = r; stands = i; number = refl; lasts = omega arith };
     values = λ r i old own. values x other r i own;
+    dirs = λ id was. made_one s.journal item id Dir was;
     made = λ id was. made_more s.journal item id was;
     gone = λ id was none. stays_gone id none;
     items = items-other x s.journal item other;
@@ -242,6 +254,16 @@ module _ (skew greatest : ℕ) (s : Sight) (by : Session) (d : Settled) (e : Ent
         base = ap (λ g. value_after_all by g l.base (effects_led file e)) was.field ∙ ap (λ v. value_after_all by (Life (child dir was.number)) v (effects_led file e)) was.base ∙ unborn_led by e.op file e.reply (child dir was.number);
       })
 
+  lives_told : LivesTold s.journal d.leases → LivesTold after.journal then.leases
+  lives_told f = each_image told (λ l. (g : List ℕ) → l.field ≡ Life g → TellsLife after.journal g l.base) d.leases (λ l i g on.
+      let t : TellsLife s.journal g l.base = f l i g on in
+      let q = lived_led by e.op file e.reply g t.life in
+      record {
+        life = q.0;
+        is = ap₂ (λ x v. value_after_all by x v (effects_led file e)) on t.is ∙ q.1.0;
+        dir = λ x. made_one s.journal item g Dir (t.dir (q.1.1 x));
+      })
+
   distinct : LeasesDistinct d.leases → LeasesDistinct then.leases
   distinct f l m i j n =
       let p = In-map told l d.leases i in
@@ -254,6 +276,7 @@ module _ (skew greatest : ℕ) (s : Sight) (by : Session) (d : Settled) (e : Ent
     distinct = distinct f.distinct;
     matching = each_image told (λ l. (r : Row) → In r s.rows → r.no ≡ l.no → IsRowOf by l.field l.kind r) d.leases f.matching;
     fresh = fresh f.fresh;
+    lives = lives_told f.lives;
     held = λ x i. none_waits x i;
     backed = f.backed;
     entries = λ x i. none_waits x i;

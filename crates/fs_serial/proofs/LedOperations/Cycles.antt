@@ -1,4 +1,5 @@
--- A rename brings no directory into itself where what moves is a file, or stays in its directory.
+-- A rename brings no directory into itself where what moves is a file, or stays in its directory, or is not on the chain of the directory
+-- into which it comes.
 use Rattle.std.proofs.Common.{◌≡◌, ℕ, zero, suc, ◌&&◌, ◌||◌, ◌⊎◌, Bool, true, false, List, [], ◌∷◌, refl, sym, ap, ◌∙◌, subst, inl, inr, cond}
 use Rattle.std.specs.Prelude.{Option, Some, None, is_some, nat_eq}
 use Rattle.std.specs.Option.{option_map_or}
@@ -87,6 +88,43 @@ module _ (m : NodeMap) (sdir sname ddir dname file : List ℕ) where
       by File g = absurd (cc)
       by Dir g = to_cycles s (get m ddir) refl c g
 
+-- ## Where it moves, it is not on that chain
+
+module _ (m : NodeMap) (sdir sname ddir dname file : List ℕ) (other : (same sdir ddir && same sname dname) ≡ false) where
+  abbrev onward : Node → Stepped
+  onward d = cond (is_some (child_at d.children dname)) (reply_alone m reply.Exists)
+      (cond (denies_delete (get m file)) (reply_alone m reply.Sharing)
+      (cond (is_on_chain m file ddir) (reply_alone m reply.Cycle)
+      (record { reply = reply.Renamed; nodes = with_moved_node m file sdir sname ddir dname })))
+
+  child_off : (d : Node) → (rename_child m sdir sname d ddir dname (Some file)).reply ≡ reply.Renamed → is_on_chain m file ddir ≡ false
+  child_off d h =
+      let p : (onward d).reply ≡ reply.Renamed =
+      subst (λ b. (cond b (reply_alone m reply.Renamed) (onward d)).reply ≡ reply.Renamed) other h in
+      let q = past m (is_some (child_at d.children dname)) reply.Exists reply.Renamed _ (λ e. absurd (cc)) p in
+      let r = past m (denies_delete (get m file)) reply.Sharing reply.Renamed _ (λ e. absurd (cc)) q.1 in
+      (past m (is_on_chain m file ddir) reply.Cycle reply.Renamed _ (λ e. absurd (cc)) r.1).0
+
+  to_off : (s : Node) (o : Option Node) → child_at s.children sname ≡ Some file
+      → (rename_to m s sdir sname o ddir dname).reply ≡ reply.Renamed → is_on_chain m file ddir ≡ false
+  to_off s None c h = absurd (cc)
+  to_off s (Some d) c h = by d.kind h
+    where
+      by : (k : Kind) → (rename_to_dir k m s sdir sname d ddir dname).reply ≡ reply.Renamed → is_on_chain m file ddir ≡ false
+      by File g = absurd (cc)
+      by Dir g = child_off d (subst (λ x. (rename_child m sdir sname d ddir dname x).reply ≡ reply.Renamed) c g)
+
+  pub off_chain : (o : Option Node) → child_of o sname ≡ Some file → (rename o m sdir sname ddir dname).reply ≡ reply.Renamed
+      → is_on_chain m file ddir ≡ false
+  off_chain None c h = absurd (cc)
+  off_chain (Some s) c h = by s.kind h
+    where
+      by : (k : Kind) → (rename_in k m s sdir sname ddir dname).reply ≡ reply.Renamed → is_on_chain m file ddir ≡ false
+      by File g = absurd (cc)
+      by Dir g = to_off s (get m ddir) c g
+
+-- ## The file of a cycle
+
 -- something has the name then
 pub cycle_named : (m : NodeMap) (sdir sname ddir dname : List ℕ) (o : Option Node) → (rename o m sdir sname ddir dname).reply ≡ reply.Cycle → (file : List ℕ) × (child_of o sname ≡ Some file)
 cycle_named m sdir sname ddir dname None h = absurd (cc)
@@ -131,6 +169,11 @@ module _ (m : NodeMap) (sound : IsSound m) (sdir sname ddir dname file : List �
       in_it None h = absurd (cc)
       in_it (Some n) h = ap (λ (p : Option (List ℕ × List ℕ)). directory_of (Some (record n { parent = p }))) h
 
-  pub no_cycle : (by : Session) → (kind_of (get m file) ≡ Some File) ⊎ (same sdir ddir ≡ true) → (step m by (op.Rename sdir sname ddir dname)).reply ≡ reply.Cycle → ⊥
+  pub no_cycle : (by : Session)
+      → (kind_of (get m file) ≡ Some File) ⊎ ((same sdir ddir ≡ true) ⊎ (is_on_chain m file ddir ≡ false))
+      → (step m by (op.Rename sdir sname ddir dname)).reply ≡ reply.Cycle → ⊥
   no_cycle by (inl k) h = file_stays k (cycles m sdir sname ddir dname file (get m sdir) named h)
-  no_cycle by (inr t) h = dir_stays t (cycles m sdir sname ddir dname file (get m sdir) named h)
+  no_cycle by (inr (inl t)) h = dir_stays t (cycles m sdir sname ddir dname file (get m sdir) named h)
+  no_cycle by (inr (inr off)) h =
+      let w : WouldCycle m sdir sname ddir dname file = cycles m sdir sname ddir dname file (get m sdir) named h in
+      let wrong : true ≡ false = sym w.chain ∙ off in absurd (cc wrong)

@@ -46,6 +46,7 @@ use Rattle.fs_server.specs.Asks.{kind_for}
 use Rattle.fs_server.specs.Leads.{parts_in, uses_of}
 use Rattle.fs_serial.specs.Exchange.{ExchangeFits, IsFront, IsToBeLed, ReturnFits, ReturnsFit, due}
 use Rattle.fs_serial.specs.Leases.{IsBacked}
+use Rattle.fs_serial.specs.Fresh.{TellsLife, made}
 use Rattle.fs_serial.specs.Gone.{IsOfGone}
 use Rattle.fs_serial.specs.Led.{HomeLives, IsLeadAnswer, LedStands}
 use Rattle.fs_serial.specs.Parts.{SessionFits, SessionHolds}
@@ -183,6 +184,17 @@ module _ (skew greatest : ℕ) (s : Sight) (by : Session) (replied : List Item) 
 
   -- ## Its home lives
 
+  -- what it knows of it was told by a lease, which told that a directory lives there
+  home : made s.journal (home_of o) ≡ Some Dir
+  home =
+      let q : AsksHome (known_by c.view c.last) (given_by c.view c.last) o = home_asked (known_by c.view c.last) (given_by c.view c.last) o r leads known in
+      let k : IsKnown c.view c.last (Life (home_of o)) Shared = known_by_lease c.view c.last (Life (home_of o)) Shared (all_there (known_by c.view c.last) (given_by c.view c.last) (script_of o) (ap is_some known) (need.Lease (Life (home_of o)) Shared) q.item) in
+      let m = lease_with k.kept k.serving.lease in
+      let held : In m d.leases = In-filter_map lease_in k.kept m c.view.leases k.among (ap (option_map (lease_with k.kept)) k.serving.is) in
+      let seen : known_by c.view c.last (Life (home_of o)) Shared ≡ Some m.base = k.value ∙ ap (λ es. Some (value_after_log c.view.session (Life (home_of o)) k.kept.base es)) (h.client.pending ∙ ap (map (effects_in by)) empty) in
+      let t : TellsLife s.journal (home_of o) m.base = fits.lives m held (home_of o) k.serving.on in
+      t.dir (q.dir t.life (seen ∙ ap Some t.is))
+
   lives : HomeLives s.rows s.records by l
   lives =
       let home = home_of o in
@@ -213,6 +225,7 @@ module _ (skew greatest : ℕ) (s : Sight) (by : Session) (replied : List Item) 
     held = one_entry l.entry own;
     backed = one_entry l.entry backed;
     parts = of_parts;
+    home = home;
     lives = lives;
     right = right;
   }
@@ -261,7 +274,7 @@ module _ (skew greatest : ℕ) (s : Sight) (by : Session) (replied : List Item) 
   pub session_leads : SessionStateHolds skew greatest s by replied then (up ++ Lead (lead_of l) ∷ []) down
   session_leads = record {
     holds = subst (SessionHolds skew greatest s by replied) (sym seen) (record { backed = holds.backed; telling = holds.telling; pending = holds.pending; numbers = holds.numbers; replies = holds.replies });
-    fits = subst (SessionFits skew greatest s by) (sym seen) (record { given = fits.given; distinct = fits.distinct; matching = fits.matching; fresh = fits.fresh; held = fits.held; backed = fits.backed; entries = fits.entries; once = fits.once; refused = fits.refused; led = stands });
+    fits = subst (SessionFits skew greatest s by) (sym seen) (record { given = fits.given; distinct = fits.distinct; matching = fits.matching; fresh = fits.fresh; lives = fits.lives; held = fits.held; backed = fits.backed; entries = fits.entries; once = fits.once; refused = fits.refused; led = stands });
     client = client;
     exchange = exchange;
   }

@@ -120,17 +120,17 @@ module _ (greatest : ℕ) (w : World) (by : Session) (m : ToLead) (up : (w.ends 
   led_stands = subst (LedFits s.skew greatest (sight_in w) by (base by)) led_is (h.all.fitting by).led
 
   -- its end fits
-  end_fits_there : (e : LedEnd) → end_fits (Some l) e ≡ true → (x : Exchange) → c.exchange ≡ Some x → IsQuestion x (Lead m) → answer_fits (server_of_question x) x (Led e) c ≡ true
+  pub end_fits_there : (e : LedEnd) → end_fits (Some l) e ≡ true → (x : Exchange) → c.exchange ≡ Some x → IsQuestion x (Lead m) → answer_fits (server_of_question x) x (Led e) c ≡ true
   end_fits_there e f (Leads to) is q = joined _ _ (nat_eq_equiv.refl to) (ap (λ o. end_fits o e) to_lead.is ∙ f)
   end_fits_there e f (Asks to items fresh) is q = absurd (cc)
   end_fits_there e f (Renews to numbers) is q = absurd q
   end_fits_there e f (Releases to numbers) is q = absurd q
   end_fits_there e f (Ships to count) is q = absurd q
 
-  ended_is : (e : LedEnd) → told by (Led e) (base by) ≡ led_over by l e (base by)
+  pub ended_is : (e : LedEnd) → told by (Led e) (base by) ≡ led_over by l e (base by)
   ended_is e = ap (λ o. led_ended by o e (base by)) led_is
 
-  goes : GoesOn s.skew greatest (sight_in w) w.replied w.ends base
+  pub goes : GoesOn s.skew greatest (sight_in w) w.replied w.ends base
   goes = goes_of greatest w h
 
   -- ## It is put off or aborted
@@ -144,7 +144,7 @@ module _ (greatest : ℕ) (w : World) (by : Session) (m : ToLead) (up : (w.ends 
           (let q = goes.all.sessions by in record { backed = q.backed; telling = q.telling; pending = q.pending; numbers = q.numbers; replies = q.replies })
           (λ x other. goes.all.sessions x);
       fitting = each_session (λ x d. SessionFits s.skew greatest (sight_in w) x d) by (led_freed (base by)) base
-          (let q = goes.all.fitting by in record { given = q.given; distinct = q.distinct; matching = q.matching; fresh = q.fresh; held = q.held; backed = q.backed; entries = q.entries; once = q.once; refused = q.refused; led = tt })
+          (let q = goes.all.fitting by in record { given = q.given; distinct = q.distinct; matching = q.matching; fresh = q.fresh; lives = q.lives; held = q.held; backed = q.backed; entries = q.entries; once = q.once; refused = q.refused; led = tt })
           (λ x other. goes.all.fitting x);
       reserved = fewer_reserved (reserved_by base) (reserved_by (with_client by (led_freed (base by)) base)) (sight_in w).stored (sight_in w).journal
           (each_session (λ x (d : Settled). NoneAnew (base x) d) by (led_freed (base by)) base (none_anew (base by)) (λ x other. none_anew (base x))) goes.all.reserved;

@@ -117,6 +117,15 @@ made_in-append (j ∷ is) i id = ap (or_else (made_by j.op j.reply id)) (made_in
 pub made-append : (is : List Item) (i : Item) (id : List ℕ) → made (is ++ i ∷ []) id ≡ or_else (made is id) (made_by i.op i.reply id)
 made-append is i id = ap (or_else (root_kind id)) (made_in-append is i id) ∙ or_assoc (root_kind id) (made_in is id) (made_by i.op i.reply id)
 
+-- stays made
+pub made_one : (is : List Item) (i : Item) (id : List ℕ) (kind : Kind) → made is id ≡ Some kind → made (is ++ i ∷ []) id ≡ Some kind
+made_one is i id kind h = made-append is i id ∙ ap (λ o. or_else o (made_by i.op i.reply id)) h
+
+pub made_kept : (is more : List Item) (f : List ℕ) (kind : Kind) → made is f ≡ Some kind → made (is ++ more) f ≡ Some kind
+made_kept is [] f kind e = ap (λ js. made js f) (append-nil is) ∙ e
+made_kept is (i ∷ more) f kind e =
+    ap (λ js. made js f) (sym (append_assoc is (i ∷ []) more)) ∙ made_kept (is ++ i ∷ []) more f kind (made_one is i f kind e)
+
 either_some : (a b : Option Kind) → is_some (or_else a b) ≡ true → (is_some a ≡ true) ⊎ (is_some b ≡ true)
 either_some None b h = inr h
 either_some (Some k) b h = inl refl

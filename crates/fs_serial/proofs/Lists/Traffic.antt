@@ -4,7 +4,7 @@ use Rattle.std.proofs.Common.{◌≡◌, ℕ, ◌==◌, Bool, true, false, List,
 use Rattle.std.specs.Prelude.{Option, Some, None}
 use Rattle.std.specs.List.{find}
 use Rattle.fs_ident.specs.declared.actor.Peer.{Peer}
-use Rattle.fs_ident.specs.declared.actor.Peer.TheVariants.{Client as OfSession}
+use Rattle.fs_ident.specs.declared.actor.Peer.TheVariants.{Client as OfSession, Server as OfServer}
 use Rattle.fs_ident.specs.declared.actor.Session.{Session}
 use Rattle.fs_ident.proofs.Passing.{found}
 use Rattle.fs_ident.proofs.Standing.{In-mapped}
@@ -16,7 +16,7 @@ use Rattle.fs_msg.specs.declared.msg.Msg.TheVariants as msg
 use Rattle.fs_server.specs.declared.event.ServerEvent.{ServerEvent}
 use Rattle.fs_server.specs.declared.event.ServerEvent.TheVariants as event
 use Rattle.fs_client.specs.declared.state.Client.{Client}
-use Rattle.fs_serial.specs.Cluster.{Cluster, IsThere, Lines, is_with, with_answer, with_lines, with_sent, without_first, without_question}
+use Rattle.fs_serial.specs.Cluster.{Cluster, InFlight, IsThere, Lines, in_flight_from, is_with, with_answer, with_lines, with_sent, without_first, without_question}
 use Rattle.fs_serial.specs.Exchange.{OneExchange}
 use Rattle.fs_serial.specs.World.{Ends, message_in, pushed, with_ends}
 use Rattle.fs_serial.specs.World as world
@@ -115,3 +115,14 @@ ends_planned by c sent rest lines x = elim (by.0 == x.0) as (λ b. ends_of (cond
   | true ↦ ap (λ up. let e : Ends = record { client = c; up = up; down = messages rest } in e) (messages_pushed sent (lines by).up)
   | false ↦ refl
 ]
+
+-- ## What servers send to each other
+
+-- of two lists
+pub sent_append : (k : ℕ) (xs ys : List (Peer × Msg)) → in_flight_from k (xs ++ ys) ≡ in_flight_from k xs ++ in_flight_from k ys
+sent_append k [] ys = refl
+sent_append k ((OfServer to, msg.Peer m) ∷ xs) ys =
+    ap (λ fs. (let f : InFlight = record { from = k; to = to; message = m } in f) ∷ fs) (sent_append k xs ys)
+sent_append k ((OfServer to, msg.Client m) ∷ xs) ys = sent_append k xs ys
+sent_append k ((OfServer to, msg.Answer m) ∷ xs) ys = sent_append k xs ys
+sent_append k ((OfSession to, m) ∷ xs) ys = sent_append k xs ys

@@ -1,6 +1,6 @@
 -- An event that is no word of a transaction, no message of another server and no move leaves the server's paths as they are; what transactions
 -- keep is no path.
-use Rattle.std.proofs.Common.{◌≡◌, ℕ, Bool, true, false, List, [], ◌∷◌, cond, refl, ap, ◌∙◌}
+use Rattle.std.proofs.Common.{◌≡◌, ◌<◌, ℕ, Bool, true, false, List, [], ◌∷◌, cond, refl, ap, subst, ◌∙◌}
 use Rattle.std.specs.Prelude.{Option, Some, None}
 use Rattle.std.specs.List.{list_all}
 use Rattle.fs_field.specs.Table.{borne_numbers}
@@ -8,13 +8,16 @@ use Rattle.fs_field.specs.declared.field.Field.{Field}
 use Rattle.fs_field.specs.declared.lease_kind.LeaseKind.{LeaseKind}
 use Rattle.fs_field.specs.declared.vote.Vote.{Vote}
 use Rattle.fs_field.specs.declared.vote.Vote.TheVariants as vote
+use Rattle.fs_ident.specs.In.{In}
 use Rattle.fs_ident.specs.declared.actor.Session.{Session}
 use Rattle.fs_ident.specs.declared.actor.TxnNo.{TxnNo}
 use Rattle.fs_msg.specs.declared.client_msg.ClientMsg.TheVariants.{Ask, Renew, Release, Ship, Lead}
 use Rattle.fs_msg.specs.declared.end.End.{End}
 use Rattle.fs_msg.specs.declared.end.End.TheVariants as end
 use Rattle.fs_msg.specs.declared.entry.Entry.{Entry}
-use Rattle.fs_path.specs.Tables.{PathTables}
+use Rattle.fs_path.specs.Leases.{PathLease}
+use Rattle.fs_path.specs.Tables.{PathTables, lease_of}
+use Rattle.fs_path.specs.declared.having.Having.{Having}
 use Rattle.fs_record.specs.Effects.{tells_its_effects}
 use Rattle.fs_record.specs.Fresh.{fresh_number, is_directory}
 use Rattle.fs_server.specs.Asks.{Asking, ask_fresh, ask_from, fresh_for, fresh_in, fresh_of}
@@ -28,7 +31,7 @@ use Rattle.fs_server.specs.declared.event.ServerEvent.{ServerEvent}
 use Rattle.fs_server.specs.declared.event.ServerEvent.TheVariants as event
 use Rattle.fs_server.specs.declared.state.Server.{Server}
 use Rattle.fs_server.proofs.OneByOne.{asks_leave, reaps_leave, ships_leave}
-use Rattle.fs_serial.specs.Seen.{HasNoPaths}
+use Rattle.fs_serial.specs.Seen.{HasPeers}
 use Rattle.fs_serial.specs.Words.{IsNoneOfLed}
 
 -- the same path leases are given out, and the same are held: only what transactions keep may be another
@@ -42,9 +45,19 @@ same_paths old new e = record { issued = ap (λ (t : PathTables). t.issued) e; h
 pub then_same : {a b c : PathTables} → SamePaths a b → SamePaths b c → SamePaths a c
 then_same p q = record { issued = q.issued ∙ p.issued; held = q.held ∙ p.held }
 
--- a server with the same paths has none where the other has none
-pub pathless_still : (s t : Server) → SamePaths s.paths t.paths → HasNoPaths s → HasNoPaths t
-pathless_still s t same none = (same.issued ∙ none.0, same.held ∙ none.1)
+-- each path lease is with such a peer
+abbrev pub AreBetween : (ℕ → Type 0) → PathTables → Type 0
+AreBetween IsPeer t = ((l : PathLease) → In l t.issued → IsPeer l.peer) × ((h : Having) → In h t.held → IsPeer (lease_of h).peer)
+
+-- they are where the others are
+pub between_still : (IsPeer : ℕ → Type 0) (old new : PathTables) → SamePaths old new → AreBetween IsPeer old → AreBetween IsPeer new
+between_still IsPeer old new same peers = (
+  λ l i. peers.0 l (subst (In l) same.issued i),
+  λ h i. peers.1 h (subst (In h) same.held i),
+)
+
+pub peers_still : (servers : ℕ) (old new : PathTables) → SamePaths old new → HasPeers servers old → HasPeers servers new
+peers_still servers old new same peers = between_still (λ n. n < servers) old new same peers
 
 -- ## What transactions keep
 
@@ -119,6 +132,8 @@ event_paths event.Turn s none off = turn_paths (lapsed_in s) s
 event_paths (event.Recall field) s none off = refl
 event_paths (event.Move prefix to) s none off = absurd off
 
-pub event_pathless : (e : ServerEvent) (s : Server) → IsNoneOfLed e → IsOffPaths e → HasNoPaths s → HasNoPaths (event_step e s).server
-event_pathless e s none off =
-    pathless_still s (event_step e s).server (same_paths s.paths (event_step e s).server.paths (event_paths e s none off))
+pub event_peers : (servers : ℕ) (e : ServerEvent) (s : Server) → IsNoneOfLed e → IsOffPaths e → HasPeers servers s.paths
+    → HasPeers servers (event_step e s).server.paths
+event_peers servers e s none off =
+    peers_still servers s.paths (event_step e s).server.paths
+    (same_paths s.paths (event_step e s).server.paths (event_paths e s none off))

@@ -44,7 +44,7 @@ use Rattle.fs_serial.specs.Parts.{ServersFit}
 use Rattle.fs_serial.specs.Places.{IsHome, IsSent, OnePlace, PlacesHold, IsUnderway}
 use Rattle.fs_serial.specs.Refusals.{rows_in}
 use Rattle.fs_serial.specs.Runs.{held_by, records_in}
-use Rattle.fs_serial.specs.Seen.{HasNoPaths, with_all}
+use Rattle.fs_serial.specs.Seen.{HasPeers, with_all}
 use Rattle.fs_serial.specs.Sight.{Counts, sight_of}
 use Rattle.fs_serial.proofs.Lists.Counted.{total, total_append, total_set}
 use Rattle.fs_serial.proofs.Lists.Journals.{there_is}
@@ -55,14 +55,15 @@ use Rattle.fs_serial.proofs.Lists.Listed.{map_made, piece_made}
 use Rattle.fs_serial.proofs.Places.OnePlaces.{one_record}
 use Rattle.fs_serial.proofs.Moves.Parcels.{parcels-append}
 use Rattle.fs_serial.proofs.Moves.Parted.{IsInPlace, one_parted, record_parted, record_whole, row_parted, row_whole, times_same}
-use Rattle.fs_serial.proofs.Moves.PathSteps.{refusal_here, refused, refused_silent}
+use Rattle.fs_serial.proofs.Moves.PathPeers.{refused_named}
+use Rattle.fs_serial.proofs.Moves.PathSteps.{refusal_here, refused}
 use Rattle.fs_serial.proofs.Moves.QuietSteps.{quiet_places, quiet_same}
 use Rattle.fs_serial.proofs.Moves.Replaced.{replaced_places}
 use Rattle.fs_serial.proofs.Lists.SetAt.{In_kept, In_new, In_set}
 use Rattle.fs_serial.proofs.Lists.Times.{all_once}
 use Rattle.std.proofs.lemmas.Option.{slice_get_within}
 use Rattle.fs_serial.proofs.Moves.Unlocked.{free_of, unlocked_below}
-use Rattle.fs_serial.proofs.Transactions.PlacesAfter.{AreWords, no_words}
+use Rattle.fs_serial.proofs.Transactions.PlacesAfter.{AreWords}
 
 -- ## What is there then
 
@@ -304,21 +305,19 @@ move_same k c s prefix to at h = go (refusal_here prefix to s)
     go (Some why) = refused (IsSameAfter k prefix to c) s
         (λ n ms paths asking given noted sent. quiet_same k c s at (Move prefix to) refl n ms paths asking given sent) why prefix to
 
--- where it has no paths, it sends nothing if it is refused
 pub moved_places : (k : ℕ) (c : Cluster) (s : Server) (prefix : List ℕ) (to : ℕ) → slice_get c.servers k ≡ Some s → PlacesHold c
-    → HasNoPaths s → AreRecords (records_in c) → LivesMade (records_in c) c.journal → to < length c.servers
+    → HasPeers (length c.servers) s.paths → AreRecords (records_in c) → LivesMade (records_in c) c.journal → to < length c.servers
     → PlacesHold (after_step k (Move prefix to) (move_step prefix to s) c)
-moved_places k c s prefix to at h pathless records lives is = go (refusal_here prefix to s) refl
+moved_places k c s prefix to at h peers records lives is = go (refusal_here prefix to s) refl
   where
     go : (e : Option MoveError) → refusal_here prefix to s ≡ e → PlacesHold (after_step k (Move prefix to) (move_at e prefix to s) c)
     go None m = places_then k c s prefix to at h records lives (can_move s prefix to (first_in s.map s.me prefix s.paths) m) is
     go (Some why) m =
-        refused (λ (x : Stepped). x.out.send ≡ [] → PlacesHold (after_step k (Move prefix to) x c)) s
-        (λ n ms paths asking given noted sent silent. quiet_places k c s at (Move prefix to) refl n ms paths asking given h (λ f i. i)
-        (subst (AreWords (length c.servers)) (sym silent) (no_words (length c.servers)))) why prefix to
-        (refused_silent why prefix to s pathless)
+        refused (λ (x : Stepped). AreWords (length c.servers) x.out.send → PlacesHold (after_step k (Move prefix to) x c)) s
+        (λ n ms paths asking given noted sent words. quiet_places k c s at (Move prefix to) refl n ms paths asking given h (λ f i. i) words)
+        why prefix to (refused_named (length c.servers) s (h.named s (In-got c.servers k s at)) peers why prefix to).words
 
 pub move_places : (k : ℕ) (c : Cluster) (s : Server) (prefix : List ℕ) (to : ℕ) → slice_get c.servers k ≡ Some s → PlacesHold c
-    → HasNoPaths s → (o : Counts) → ServersFit (sight_of o (with_all s c) c.journal) → to < length c.servers
+    → HasPeers (length c.servers) s.paths → (o : Counts) → ServersFit (sight_of o (with_all s c) c.journal) → to < length c.servers
     → PlacesHold (after_step k (Move prefix to) (move_step prefix to s) c)
-move_places k c s prefix to at h pathless o f = moved_places k c s prefix to at h pathless f.sound.records (fit_lives c s o f)
+move_places k c s prefix to at h peers o f = moved_places k c s prefix to at h peers f.sound.records (fit_lives c s o f)

@@ -1,6 +1,6 @@
 -- A server that takes a message of path leases, or hands nothing over since paths go over it or for another cause, is quiet: it changes
 -- what it has of paths alone, and tells other servers of paths alone.
-use Rattle.std.proofs.Common.{◌≡◌, ℕ, ◌==◌, Bool, true, false, List, [], ◌∷◌, ◌++◌, cond, refl, sym, ap, ap₂, subst, inl, inr}
+use Rattle.std.proofs.Common.{◌≡◌, ℕ, ◌==◌, Bool, true, false, List, [], ◌∷◌, ◌++◌, cond, refl, sym, ap, subst, inl, inr}
 use Rattle.std.specs.Prelude.{Option, Some, None, option_map}
 use Rattle.std.specs.List.{filter_map}
 use Rattle.fs_ident.specs.In.{In}
@@ -22,11 +22,9 @@ use Rattle.fs_msg.specs.declared.server_note.ServerNote.TheVariants as note
 use Rattle.fs_parcel.specs.Parcel.{move_refusal}
 use Rattle.fs_parcel.specs.declared.error.MoveError.{MoveError}
 use Rattle.fs_parcel.specs.declared.error.MoveError.TheVariants as move
-use Rattle.fs_path.specs.Leases.{PathLease}
-use Rattle.fs_path.specs.Returns.{after_give_back, after_recalled, after_released, give_back, held_after, is_into, recalled, releases}
+use Rattle.fs_path.specs.Returns.{after_give_back, after_recalled, after_released, give_back, recalled, releases}
 use Rattle.fs_path.specs.Returns.{without_no}
 use Rattle.fs_path.specs.Tables.{PathTables, first_in, frozen_for, holds, is_leaving, issued_to}
-use Rattle.fs_path.specs.declared.having.Having.{Having}
 use Rattle.fs_path.specs.declared.recalled.Recalled.{Recalled}
 use Rattle.fs_path.specs.declared.recalled.Recalled.TheVariants.{Release, Down, Unheld}
 use Rattle.fs_record.specs.declared.led_end.Why.{Why}
@@ -34,15 +32,14 @@ use Rattle.fs_record.specs.declared.led_end.Why.TheVariants as why
 use Rattle.fs_server.specs.Follows.{to_server}
 use Rattle.fs_server.specs.Leads.{moved_why}
 use Rattle.fs_server.specs.Moves.{move_at, peer_step, refusal_of}
-use Rattle.fs_server.specs.PathSteps.{answers_path, asks_back_in, asks_up, denies, dir_here, fails_path, gives_path, goes_down, has_child}
-use Rattle.fs_server.specs.PathSteps.{is_asking, is_out_to, is_same_dir, keeps_path, last_dir, moved_path, path_ask_step}
-use Rattle.fs_server.specs.PathSteps.{path_grant_step, path_here, path_no_step, path_recalls, path_release_step, returns_sent}
+use Rattle.fs_server.specs.PathSteps.{answers_path, asks_back_in, asks_nobody, asks_up, denies, dir_here, fails_path, gives_path, goes_down, has_child}
+use Rattle.fs_server.specs.PathSteps.{is_out_to, is_same_dir, keeps_path, last_dir, moved_path, path_ask_step}
+use Rattle.fs_server.specs.PathSteps.{path_grant_step, path_here, path_no_step, path_recalls, path_release_step}
 use Rattle.fs_server.specs.PathSteps.{path_releases, sends, unless_kept, with_asking, without_asking}
 use Rattle.fs_server.specs.Server.{Stepped, is_mine, strange}
 use Rattle.fs_server.specs.declared.state.Server.{Server}
 use Rattle.fs_serial.specs.Cluster.{InFlight, in_flight_from, parcel_in, parcels_of}
 use Rattle.fs_serial.specs.PathLaws.{IsPathMessage}
-use Rattle.fs_serial.specs.Seen.{HasNoPaths}
 use Rattle.fs_serial.specs.Words.{telling_of, told_in, told_with, word_in}
 use Rattle.fs_serial.specs.World.{Ends}
 use Rattle.fs_serial.specs.World as world
@@ -86,8 +83,8 @@ both_sent : (a b : List (Peer × Msg)) → ArePathSends a → ArePathSends b →
 both_sent [] b p q = q
 both_sent (x ∷ rest) b p q = (p.0, both_sent rest b p.1 q)
 
-up_sent : (file dir : List ℕ) (s : Server) → ArePathSends (asks_up file dir s)
-up_sent file dir s = elim (is_asking file s) as
+pub up_sent : (file dir : List ℕ) (s : Server) → ArePathSends (asks_up file dir s)
+up_sent file dir s = elim (asks_nobody file dir s) as
     (λ b. ArePathSends (cond b [] (to_server (server_of s.map dir) (peer.PathAsk file dir) ∷ []))) [
       | true ↦ tt
       | false ↦ (tt, tt)
@@ -230,7 +227,7 @@ pub no_parcel : (m : PeerMsg) → IsPathMessage m → parcel_in m ≡ None
 no_parcel (peer.Parcel p) is = absurd is
 no_parcel m is = refl
 
-no_word : (m : PeerMsg) → IsPathMessage m → word_in m ≡ None
+pub no_word : (m : PeerMsg) → IsPathMessage m → word_in m ≡ None
 no_word (peer.Prepare m) is = absurd is
 no_word (peer.Vote m) is = absurd is
 no_word (peer.Decide m) is = absurd is
@@ -244,26 +241,3 @@ none_handed k ms are = none_brought k (λ (f : InFlight). parcel_in f.message) (
 -- and no word of a transaction
 pub none_worded : (k : ℕ) (ms : List (Peer × Msg)) → ArePathSends ms → telling_of (in_flight_from k ms) ≡ []
 none_worded k ms are = none_brought k told_in (λ f is. ap (option_map (told_with f.from f.to)) (no_word f.message is)) ms are
-
--- ## Where the server has no paths
-
-abbrev with_tables : List PathLease → List Having → Server → PathTables
-with_tables issued held s = record { issued = issued; held = held; frozen = s.paths.frozen }
-
--- none are asked back
-pub none_asked : (prefix : List ℕ) (s : Server) → HasNoPaths s → returns_sent (give_back s.map s.me prefix s.paths) ≡ []
-none_asked prefix s none =
-    ap₂ (λ (issued : List PathLease) (held : List Having). returns_sent (give_back s.map s.me prefix (with_tables issued held s)))
-    none.0 none.1
-
-pub refused_silent : (why : MoveError) (prefix : List ℕ) (to : ℕ) (s : Server) → HasNoPaths s
-    → (move_at (Some why) prefix to s).out.send ≡ []
-refused_silent (move.Paths number) prefix to s none = none_asked prefix s none
-refused_silent why prefix to s none = refl
-
--- and it has none then
-pub refused_pathless : (why : MoveError) (prefix : List ℕ) (to : ℕ) (s : Server) → HasNoPaths s
-    → HasNoPaths (move_at (Some why) prefix to s).server
-refused_pathless (move.Paths number) prefix to s none =
-    (none.0, ap₂ (λ (issued : List PathLease) (held : List Having). held_after (is_into s.map s.me prefix) issued held) none.0 none.1)
-refused_pathless why prefix to s none = none

@@ -34,7 +34,7 @@ use Rattle.fs_serial.specs.World.{CanCome, is_called, ClientEvent, Does, Ends, H
 use Rattle.fs_serial.proofs.ClientMessages.ActMoves.{IsPlanned, ServersMoved, ReadsAt, act_moved, reads_right, same_items, servers_stay, with_items}
 use Rattle.fs_serial.proofs.OneServer.ClientSteps.{IsMoved, begun_again, begun_moved, hinted_moved, session_of, with_journal, world_moved}
 use Rattle.fs_serial.proofs.Grants.Claims.{AreUnborn, none_anew_then}
-use Rattle.fs_serial.proofs.OtherSessions.Gone.{MakeAnew, all_anew, all_unborn, made_pushed}
+use Rattle.fs_serial.proofs.OtherSessions.Gone.{MakeAnew, all_anew, all_unborn, dirs_pushed, made_pushed}
 use Rattle.fs_serial.proofs.ClientMessages.HearMoves.{fits_first, hear_moved}
 use Rattle.fs_serial.proofs.Returns.Lapse.{lapse_fewer}
 use Rattle.fs_serial.proofs.Replies.Read.{IsReadOf, item_read, plain_is_read, plain_read}
@@ -71,7 +71,7 @@ module _ {N : Type 0} (greatest now : ℕ) (w : World) (by : Session) (rest : Li
     }
 
     pub plan_keeps : WorldHolds greatest (after_plan by rest p w)
-    plan_keeps = world_moved greatest w by then (told_by by p.ready.change p.out.admitted) (e (committed p.ready c)) h (made_pushed p.out.admitted w.journal) q.others (q.servers.holds h.all.servers) (q.servers.fits h.all.kept)
+    plan_keeps = world_moved greatest w by then (told_by by p.ready.change p.out.admitted) (e (committed p.ready c)) h (made_pushed p.out.admitted w.journal) (dirs_pushed p.out.admitted w.journal) q.others (q.servers.holds h.all.servers) (q.servers.fits h.all.kept)
         (q.servers.reserved (λ x. settled_at x (w.ends x)) h.all.reserved)
         (subst (λ d. IsMoved w.server.skew greatest s (with_journal then s) by (w.replied by) c (w.ends by).down (told_by by p.ready.change p.out.admitted) (e d)) (sym client_is)
         (hinted_moved w.server.skew greatest s (with_journal then s) by (w.replied by) c d (pushed (message_in p.out.send) (w.ends by).up) (w.ends by).down rest (told_by by p.ready.change p.out.admitted) p.ready.hints moved))

@@ -3,8 +3,10 @@ use Rattle.std.proofs.Common.{◌≡◌, ℕ, ◌==◌, true, false, List, [], �
 use Rattle.std.specs.Prelude.{Option, Some, None}
 use Rattle.fs_ident.specs.In.{In}
 use Rattle.fs_ident.specs.declared.actor.Session.{Session}
+use Rattle.fs_ident.specs.declared.kind.Kind.TheVariants.{Dir}
 use Rattle.fs_ident.proofs.Same.{one_session}
 use Rattle.fs_map.specs.Map.{Owners}
+use Rattle.fs_model.specs.Asking.{home_of}
 use Rattle.fs_msg.specs.declared.answer.Answer.{Answer}
 use Rattle.fs_msg.specs.declared.client_msg.ClientMsg.{ClientMsg}
 use Rattle.fs_msg.specs.declared.item.Item.{Item}
@@ -13,7 +15,7 @@ use Rattle.fs_client.specs.Client.{begun, with_hints}
 use Rattle.fs_view.specs.View.{lapsed_at}
 use Rattle.fs_client.specs.declared.state.Client.{Client}
 use Rattle.fs_client.proofs.Planning.{max_again}
-use Rattle.fs_serial.specs.Fresh.{FreshReserved, IsMade, reserved_by}
+use Rattle.fs_serial.specs.Fresh.{FreshReserved, IsMade, made, reserved_by}
 use Rattle.fs_serial.specs.Numbers.{AreNumbered, all_items, items_by}
 use Rattle.fs_serial.specs.Parts.{ServersHold, ServersFit}
 use Rattle.fs_serial.specs.Settled.{settled_now}
@@ -21,7 +23,7 @@ use Rattle.fs_serial.specs.Sight.{Sight, sight_with}
 use Rattle.fs_serial.specs.World.{Ends, World, WorldHolds, pushed, settled_at, sight_in, with_ends, with_told}
 use Rattle.fs_serial.proofs.LedOperations.LedKept.{each_led}
 use Rattle.fs_serial.proofs.ClientMessages.Carried.{GoesOnAs, exchange_still}
-use Rattle.fs_serial.proofs.OtherSessions.Gone.{telling_later}
+use Rattle.fs_serial.proofs.OtherSessions.Gone.{telling_later, tells_later}
 use Rattle.fs_serial.proofs.Returns.Lapse.{lapse_fewer, session_lapse}
 use Rattle.fs_serial.proofs.ClientMessages.SessionStates.{SessionStateHolds, seen_at}
 use Rattle.fs_serial.proofs.Grants.Claims.{NoneAnew, none_anew, none_anew_in}
@@ -35,13 +37,13 @@ abbrev pub with_journal : List Item → Sight → Sight
 with_journal journal s = record s { journal = journal }
 
 -- another session's items in the journal are of no matter
-pub session_beside : (skew greatest : ℕ) (s : Sight) (x : Session) (replied : List Item) (c : Client) (up : List ClientMsg) (down : List Answer) (journal : List Item) → ((id : List ℕ) → IsMade s.journal id → IsMade journal id) → items_by x journal ≡ items_by x s.journal → SessionStateHolds skew greatest s x replied c up down → SessionStateHolds skew greatest (with_journal journal s) x replied c up down
-session_beside skew greatest s x replied c up down journal grows same h =
+pub session_beside : (skew greatest : ℕ) (s : Sight) (x : Session) (replied : List Item) (c : Client) (up : List ClientMsg) (down : List Answer) (journal : List Item) → ((id : List ℕ) → IsMade s.journal id → IsMade journal id) → ((id : List ℕ) → made s.journal id ≡ Some Dir → made journal id ≡ Some Dir) → items_by x journal ≡ items_by x s.journal → SessionStateHolds skew greatest s x replied c up down → SessionStateHolds skew greatest (with_journal journal s) x replied c up down
+session_beside skew greatest s x replied c up down journal grows dirs same h =
     let d = seen_at x c down in
     let items : all_items x journal d.log ≡ all_items x s.journal d.log = ap (λ is. is ++ map (item_of x) d.log) same in
     record {
       holds = record { backed = h.holds.backed; telling = telling_later s.rows s.records s.journal journal grows x d.leases h.holds.telling; pending = h.holds.pending; numbers = subst (λ is. AreNumbered 1 is d.next) (sym items) h.holds.numbers; replies = items ∙ h.holds.replies };
-      fits = record { given = h.fits.given; distinct = h.fits.distinct; matching = h.fits.matching; fresh = h.fits.fresh; held = h.fits.held; backed = h.fits.backed; entries = h.fits.entries; once = h.fits.once; refused = h.fits.refused; led = each_led skew greatest greatest s (with_journal journal s) x d d d.led (λ l is h. record { leads = h.leads; number = h.number; empty = h.empty; held = h.held; backed = h.backed; parts = h.parts; lives = h.lives; right = h.right }) h.fits.led };
+      fits = record { given = h.fits.given; distinct = h.fits.distinct; matching = h.fits.matching; fresh = h.fits.fresh; lives = λ l i file on. tells_later s.journal journal file l.base (dirs file) (h.fits.lives l i file on); held = h.fits.held; backed = h.fits.backed; entries = h.fits.entries; once = h.fits.once; refused = h.fits.refused; led = each_led skew greatest greatest s (with_journal journal s) x d d d.led (λ l is h. record { leads = h.leads; number = h.number; empty = h.empty; held = h.held; backed = h.backed; parts = h.parts; home = dirs (home_of l.entry.op) h.home; lives = h.lives; right = h.right }) h.fits.led };
       client = h.client;
       exchange = h.exchange;
     }
@@ -60,13 +62,13 @@ each_two P by told e replied ends own others x = elim (by.0 == x.0) as (λ b. (b
   | false ↦ λ q. others x q
 ] refl
 
-module _ (greatest : ℕ) (w : World) (by : Session) (journal : List Item) (told : Option Item) (e : Ends) (h : WorldHolds greatest w) (grows : (id : List ℕ) → IsMade w.journal id → IsMade journal id) (others : (x : Session) → (by.0 == x.0) ≡ false → items_by x journal ≡ items_by x w.journal) (holds : ServersHold (sight_with w.counts w.decided w.server journal)) (fits : ServersFit (sight_with w.counts w.decided w.server journal)) (reserved : FreshReserved (reserved_by (λ x. settled_at x (w.ends x))) (sight_in w).stored journal) (moved : IsMoved w.server.skew greatest (sight_in w) (sight_with w.counts w.decided w.server journal) by (w.replied by) (w.ends by).client (w.ends by).down told e) where
+module _ (greatest : ℕ) (w : World) (by : Session) (journal : List Item) (told : Option Item) (e : Ends) (h : WorldHolds greatest w) (grows : (id : List ℕ) → IsMade w.journal id → IsMade journal id) (dirs : (id : List ℕ) → made w.journal id ≡ Some Dir → made journal id ≡ Some Dir) (others : (x : Session) → (by.0 == x.0) ≡ false → items_by x journal ≡ items_by x w.journal) (holds : ServersHold (sight_with w.counts w.decided w.server journal)) (fits : ServersFit (sight_with w.counts w.decided w.server journal)) (reserved : FreshReserved (reserved_by (λ x. settled_at x (w.ends x))) (sight_in w).stored journal) (moved : IsMoved w.server.skew greatest (sight_in w) (sight_with w.counts w.decided w.server journal) by (w.replied by) (w.ends by).client (w.ends by).down told e) where
   abbrev ends : Session → Ends
   ends = with_ends by e w.ends
 
   states : (x : Session) → SessionStateHolds w.server.skew greatest (sight_with w.counts w.decided w.server journal) x (with_told by told w.replied x) (ends x).client (ends x).up (ends x).down
   states = each_two (λ x is n. SessionStateHolds w.server.skew greatest (sight_with w.counts w.decided w.server journal) x is n.client n.up n.down) by told e w.replied w.ends moved.state
-      (λ x q. session_beside w.server.skew greatest (sight_in w) x (w.replied x) (w.ends x).client (w.ends x).up (w.ends x).down journal grows (others x q) (session_of greatest w x h))
+      (λ x q. session_beside w.server.skew greatest (sight_in w) x (w.replied x) (w.ends x).client (w.ends x).up (w.ends x).down journal grows dirs (others x q) (session_of greatest w x h))
 
   still_reserved : (x : Session) → NoneAnew (settled_at x (w.ends x)) (settled_at x (ends x))
   still_reserved = each_two (λ x is m. NoneAnew (settled_at x (w.ends x)) (settled_at x m)) by told e w.replied w.ends

@@ -117,6 +117,7 @@ module _ (greatest term : ℕ) (s : Server) (o : Counts) (no_rows : s.rows ≡ [
     distinct = λ l m i j e. absurd i;
     matching = λ l i r j e. absurd i;
     fresh = λ l i dir e. absurd i;
+    lives = λ l i file e. absurd i;
     held = λ e i u j. absurd i;
     backed = λ e i u j late. absurd i;
     entries = λ e i. absurd i;

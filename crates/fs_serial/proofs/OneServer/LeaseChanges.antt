@@ -68,6 +68,7 @@ module _ (skew greatest : ℕ) (s : Sight) (stored : RecordMap) (replied : Sessi
     older = λ r i g. record { row = r; stood = i; number = refl; session = refl; field = refl; kind = refl };
     kept = λ l h r i e late. record { row = r; stands = i; number = refl; lasts = omega arith };
     values = λ r i g own. inr refl;
+    dirs = λ file was. was;
     made = λ file was. was;
     gone = λ file was none. none;
     items = refl;
@@ -140,7 +141,7 @@ module _ (skew greatest : ℕ) (t : Sight) (replied : Session → List Item) (en
       servers = h.all.servers;
       kept = h.all.kept;
       sessions = each_session (λ x d. SessionHolds skew greatest t x (replied x) d) by d clients (leased_holds skew greatest by t (clients by) l new (h.all.fitting by) (replied by) (h.all.sessions by)) (λ x other. h.all.sessions x);
-      fitting = each_session (λ x d. SessionFits skew greatest t x d) by d clients (leased_fits skew greatest by t (clients by) l new (h.all.fitting by)) (λ x other. h.all.fitting x);
+      fitting = each_session (λ x d. SessionFits skew greatest t x d) by d clients (leased_fits skew greatest by t (clients by) l new (h.all.fitting by) h.all.kept.made) (λ x other. h.all.fitting x);
       reserved = reserved;
     };
     carried = carried_leased h.carried;

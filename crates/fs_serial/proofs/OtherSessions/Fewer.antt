@@ -118,6 +118,7 @@ module _ (skew greatest : ℕ) (s : Sight) (by : Session) (replied : List Item) 
     held = one_entry l.entry (λ u i. let q : HasLease d.leases u = h.held l.entry (inl refl) u i in record { lease = q.lease; held = f.still q.lease q.held (subst these (sym q.number) (here u i)); number = q.number; field = q.field; kind = q.kind });
     backed = h.backed;
     parts = h.parts;
+    home = h.home;
     lives = h.lives;
     right = h.right;
   }
@@ -128,6 +129,7 @@ module _ (skew greatest : ℕ) (s : Sight) (by : Session) (replied : List Item) 
     distinct = λ l m i j. h.distinct l m (f.fewer l i) (f.fewer m j);
     matching = λ l i. h.matching l (f.fewer l i);
     fresh = λ l i. h.fresh l (f.fewer l i);
+    lives = λ l i. h.lives l (f.fewer l i);
     held = subst (UsesHeld e.leases) (sym f.log) (held h.held);
     backed = subst (UsesBacked skew greatest s.rows) (sym f.log) h.backed;
     entries = subst AreEntries (sym f.log) h.entries;

@@ -6,6 +6,7 @@ use Rattle.std.specs.List.{list_any}
 use Rattle.fs_ident.specs.In.{In}
 use Rattle.fs_ident.specs.declared.actor.Session.{Session}
 use Rattle.fs_ident.specs.declared.kind.Kind.{Kind}
+use Rattle.fs_ident.specs.declared.kind.Kind.TheVariants.{Dir}
 use Rattle.fs_ident.proofs.Options.{not_some}
 use Rattle.fs_field.specs.declared.field.Field.{Field}
 use Rattle.fs_field.specs.declared.field.Field.TheVariants.{Life, Child, Names, Info, Own, SelfW, Other}
@@ -24,7 +25,7 @@ use Rattle.fs_view.specs.Gone.{IsGone, IsUnread}
 use Rattle.fs_view.specs.ViewLease.{makes}
 use Rattle.fs_view.proofs.Seeing.{own_values}
 use Rattle.fs_view.proofs.Unread.{gone_in, gone_stays}
-use Rattle.fs_serial.specs.Fresh.{made, made_by, or_else, ByLease, ByLog, IsMade, FreshReserved, reserved_by}
+use Rattle.fs_serial.specs.Fresh.{TellsLife, made, made_by, or_else, ByLease, ByLog, IsMade, FreshReserved, reserved_by}
 use Rattle.fs_serial.specs.Gone.{IsOfGone}
 use Rattle.fs_serial.specs.Leases.{LeasesTrue}
 use Rattle.fs_serial.specs.Parts.{AllHold}
@@ -36,7 +37,7 @@ use Rattle.fs_serial.specs.World.{pushed}
 use Rattle.fs_serial.proofs.Admission.Answered.{answered}
 use Rattle.fs_serial.proofs.Admission.Births.{life_after, makes_there, names_made}
 use Rattle.fs_serial.proofs.Grants.Claims.{AreUnborn, unmade_dead}
-use Rattle.fs_serial.proofs.Lists.Journals.{below_itself, made-append}
+use Rattle.fs_serial.proofs.Lists.Journals.{below_itself, made-append, made_one}
 
 -- ## What was made
 
@@ -51,6 +52,14 @@ made_more is i id h = ap is_some (made-append is i id) ∙ still_some (made is i
 pub made_pushed : (i : Option Item) (is : List Item) (id : List ℕ) → IsMade is id → IsMade (pushed i is) id
 made_pushed None is id h = h
 made_pushed (Some i) is id h = made_more is i id h
+
+pub dirs_pushed : (i : Option Item) (is : List Item) (id : List ℕ) → made is id ≡ Some Dir → made (pushed i is) id ≡ Some Dir
+dirs_pushed None is id h = h
+dirs_pushed (Some i) is id h = made_one is i id Dir h
+
+-- so what tells of it goes on to do so
+pub tells_later : (is more : List Item) (file : List ℕ) (told : Value) → (made is file ≡ Some Dir → made more file ≡ Some Dir) → TellsLife is file told → TellsLife more file told
+tells_later is more file told stays t = record { life = t.life; is = t.is; dir = λ e. stays (t.dir e) }
 
 -- no entry of the log makes a file that was made
 abbrev pub MakeAnew : Session → List Item → List Entry → Type 0

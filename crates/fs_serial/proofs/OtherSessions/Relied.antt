@@ -15,6 +15,7 @@ use Rattle.fs_field.specs.declared.row.Row.{Row}
 use Rattle.fs_field.specs.declared.used.Use.{Use}
 use Rattle.fs_field.specs.declared.value.Value.{Value}
 use Rattle.fs_field.specs.declared.value.Value.TheVariants as value
+use Rattle.fs_model.specs.Asking.{home_of}
 use Rattle.fs_msg.specs.declared.answer.Answer.{Answer}
 use Rattle.fs_msg.specs.declared.entry.Entry.{Entry}
 use Rattle.fs_msg.specs.declared.item.Item.{Item}
@@ -29,7 +30,7 @@ use Rattle.fs_client.specs.Led.{is_led}
 use Rattle.fs_client.specs.declared.led.Led.{Led}
 use Rattle.fs_client.specs.Turns.{pair_of}
 use Rattle.fs_serial.specs.Exchange.{ReturnsFit, RenewalsBacked}
-use Rattle.fs_serial.specs.Fresh.{IsMade}
+use Rattle.fs_serial.specs.Fresh.{IsMade, made}
 use Rattle.fs_serial.specs.Gone.{IsOfGone}
 use Rattle.fs_serial.specs.Led.{HomeLives, IsLeadAnswer, LedStands}
 use Rattle.fs_serial.specs.Leases.{IsBacked, LeasesBacked, LeasesTrue, LeasesMatch}
@@ -40,7 +41,7 @@ use Rattle.fs_serial.specs.Pending.{AllStand, HasLease, IsAnswer, IsCovered, Pen
 use Rattle.fs_serial.specs.Relies.{Relies, Stood}
 use Rattle.fs_serial.specs.Settled.{Lease, Settled, effects_in}
 use Rattle.fs_serial.specs.Sight.{Sight, IsGiven}
-use Rattle.fs_serial.proofs.OtherSessions.Gone.{IsLost, MakeAnew, gone_later, lost_after, lost_in, lost_unread}
+use Rattle.fs_serial.proofs.OtherSessions.Gone.{IsLost, MakeAnew, gone_later, lost_after, lost_in, lost_unread, tells_later}
 use Rattle.fs_serial.proofs.LedOperations.LedKept.{each_led, one_entry}
 use Rattle.fs_serial.proofs.LedOperations.MovedItems.{moved_alike}
 use Rattle.fs_serial.proofs.OtherSessions.Older.{later_pair}
@@ -91,6 +92,7 @@ pub record ReliesFor (skew greatest : ℕ) (by : Session) (s t : Sight) (leases 
   -- the rows of its leases are kept until they have ended
   pub kept : (l : Lease) → In l leases → (r : Row) → In r s.rows → r.no ≡ l.no → greatest < r.until + skew → IsBacked t.rows r.no r.until
   pub values : (r : Row) → In r t.rows → IsGiven s.given r.no → r.session ≡ by → IsOfGone t.records s.journal r.field ⊎ (value_of t.records by r.field ≡ value_of s.records by r.field)
+  pub dirs : (file : List ℕ) → made s.journal file ≡ Some Dir → made t.journal file ≡ Some Dir
   pub made : (file : List ℕ) → IsMade s.journal file → IsMade t.journal file
   pub gone : (file : List ℕ) → IsMade s.journal file → node_of (get s.records file) ≡ None → node_of (get t.records file) ≡ None
   pub items : items_by by t.journal ≡ items_by by s.journal
@@ -224,6 +226,7 @@ module _ (skew greatest : ℕ) (by : Session) (s t : Sight) (d : Settled) (rely 
     held = h.held;
     backed = one_entry l.entry (λ u i late. let q = h.held l.entry (inl refl) u i in backed_still q.lease q.held u.no u.until (sym q.number) late (h.backed l.entry (inl refl) u i late));
     parts = h.parts;
+    home = rely.dirs (home_of l.entry.op) h.home;
     lives = home_still l h;
     right = λ stand. lead_alike t.rows by (value_of s.records by) (value_of t.records by) l h.leads
         (λ r i own u j n. agree_unread (value_of s.records by) (value_of t.records by) agree_at_first r i (subst (λ n. IsGiven s.given n) (sym n) (given_by u (h.held l.entry (inl refl) u j))) own)
@@ -246,6 +249,7 @@ module _ (skew greatest : ℕ) (by : Session) (s t : Sight) (d : Settled) (rely 
     distinct = f.distinct;
     matching = matching;
     fresh = f.fresh;
+    lives = λ l i file on. tells_later s.journal t.journal file l.base (rely.dirs file) (f.lives l i file on);
     held = f.held;
     backed = uses_backed;
     entries = f.entries;
@@ -286,6 +290,7 @@ relies_for skew greatest by s t leases matching rely = record {
   older = rely.older;
   kept = λ l h r i e late. rely.kept r i (matching l h r i e).session late;
   values = rely.values;
+  dirs = rely.dirs;
   made = rely.made;
   gone = rely.gone;
   items = rely.items;

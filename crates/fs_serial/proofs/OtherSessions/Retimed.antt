@@ -4,6 +4,7 @@ use Rattle.std.specs.Prelude.{Some}
 use Rattle.fs_ident.specs.In.{In}
 use Rattle.fs_ident.specs.declared.actor.LeaseNo.{LeaseNo}
 use Rattle.fs_ident.specs.declared.actor.Session.{Session}
+use Rattle.fs_field.specs.declared.field.Field.TheVariants.{Life}
 use Rattle.fs_ident.proofs.Standing.{In-map, In-mapped}
 use Rattle.fs_field.specs.declared.row.Row.{Row}
 use Rattle.fs_field.specs.declared.used.Use.{Use}
@@ -12,6 +13,7 @@ use Rattle.fs_field.proofs.SameNo.{same_no_is}
 use Rattle.fs_msg.specs.declared.entry.Entry.{Entry}
 use Rattle.fs_msg.specs.declared.item.Item.{Item}
 use Rattle.fs_record.specs.ValueOf.{value_of}
+use Rattle.fs_serial.specs.Fresh.{TellsLife}
 use Rattle.fs_serial.specs.Gone.{IsOfGone}
 use Rattle.fs_serial.specs.Leases.{IsBacked, IsRowOf, IsFresh}
 use Rattle.fs_serial.specs.Parts.{SessionHolds, SessionFits}
@@ -93,6 +95,8 @@ module _ (skew greatest : ℕ) (s : Sight) (by : Session) (replied : List Item) 
     matching = each_image (retimed n until) (λ l. (r : Row) → In r s.rows → r.no ≡ l.no → IsRowOf by l.field l.kind r) d.leases (λ l i r j e.
         let q : IsRowOf by l.field l.kind r = f.matching l i r j (e ∙ no_same l) in record { session = q.session; field = q.field ∙ sym (field_same l); kind = q.kind ∙ sym (kind_same l) });
     fresh = each_image (retimed n until) (λ l. (dir : List ℕ) → l.below ≡ Some dir → IsFresh dir l) d.leases (λ l i dir b. fresh_same dir l (f.fresh l i dir (sym (below_same l) ∙ b)));
+    lives = each_image (retimed n until) (λ l. (file : List ℕ) → l.field ≡ Life file → TellsLife s.journal file l.base) d.leases
+        (λ l i file on. subst (TellsLife s.journal file) (sym (base_same l)) (f.lives l i file (sym (field_same l) ∙ on)));
     held = held d.log f.held;
     backed = f.backed;
     entries = f.entries;
@@ -105,6 +109,7 @@ module _ (skew greatest : ℕ) (s : Sight) (by : Session) (replied : List Item) 
       held = one_entry led.entry (λ u i. one_held u (h.held led.entry (inl refl) u i));
       backed = h.backed;
       parts = h.parts;
+      home = h.home;
       lives = h.lives;
       right = h.right;
     }) f.led;

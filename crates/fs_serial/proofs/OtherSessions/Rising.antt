@@ -28,12 +28,13 @@ module _ (skew greatest later : ℕ) (rises : greatest ≤ later) where
     distinct = f.distinct;
     matching = f.matching;
     fresh = f.fresh;
+    lives = f.lives;
     held = f.held;
     backed = λ e i u j late. f.backed e i u j (omega arith);
     entries = f.entries;
     once = f.once;
     refused = f.refused;
-    led = each_led skew greatest later s s by d d d.led (λ l is h. record { leads = h.leads; number = h.number; empty = h.empty; held = h.held; backed = λ e i u j late. h.backed e i u j (omega arith); parts = h.parts; lives = h.lives; right = h.right }) f.led;
+    led = each_led skew greatest later s s by d d d.led (λ l is h. record { leads = h.leads; number = h.number; empty = h.empty; held = h.held; backed = λ e i u j late. h.backed e i u j (omega arith); parts = h.parts; home = h.home; lives = h.lives; right = h.right }) f.led;
   }
 
   pub all_later : (s : Sight) (replied : Session → List Item) (clients : Session → Settled) → AllHold skew greatest s replied clients → AllHold skew later s replied clients

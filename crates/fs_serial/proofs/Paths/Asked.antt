@@ -15,7 +15,7 @@ use Rattle.fs_record.specs.declared.led_end.Why.{Why}
 use Rattle.fs_record.specs.declared.led_end.Why.TheVariants as why
 use Rattle.fs_server.specs.Follows.{to_server}
 use Rattle.fs_server.specs.Leads.{moved_why}
-use Rattle.fs_server.specs.PathSteps.{answers_path, asks_above, denies, has_child, is_asking, path_here, unless_kept}
+use Rattle.fs_server.specs.PathSteps.{answers_path, asks_above, asks_nobody, denies, has_child, path_here, unless_kept}
 use Rattle.fs_server.specs.Server.{Stepped, is_mine}
 use Rattle.fs_server.specs.declared.event.ServerEvent.{ServerEvent}
 use Rattle.fs_server.specs.declared.event.ServerEvent.TheVariants.{FromPeer}
@@ -84,7 +84,7 @@ module _ (c : Cluster) (k from : ℕ) (s : Server) (file dir : List ℕ) (t : To
     both_say : (g : InFlight) → In g (in_flight_from k asks.out.send) → SaysPath (after_step k e asks c) g.from g.to g.message
     both_say g (inl q) = subst (λ (z : InFlight). SaysPath (after_step k e asks c) z.from z.to z.message) (sym q)
         (nothing_made c (after_step k e asks c) refl file said)
-    both_say g (inr i) = up_say (is_asking top s) g i
+    both_say g (inr i) = up_say (asks_nobody top above s) g i
 
     up_brings : (n : PathNo) (b : Bool) → on_way n (in_flight_from k (cond b [] (to_server (server_of s.map above) (PathAsk top above) ∷ []))) ≡ 0
     up_brings n true = refl
@@ -98,7 +98,7 @@ module _ (c : Cluster) (k from : ℕ) (s : Server) (file dir : List ℕ) (t : To
       given = refl;
       journal = nothing_made c (after_step k e asks c) refl;
       sent = both_say;
-      brings = λ n. let q = taken n in let none = up_brings n (is_asking top s) in omega (arith, q, none);
+      brings = λ n. let q = taken n in let none = up_brings n (asks_nobody top above s) in omega (arith, q, none);
     })
 
   -- ## Either

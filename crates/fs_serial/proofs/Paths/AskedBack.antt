@@ -27,7 +27,8 @@ use Rattle.fs_serial.specs.PathLaws.{after_path}
 use Rattle.fs_serial.specs.Paths.{IsOut, SaysPath}
 use Rattle.fs_serial.proofs.Lists.Counted.{one_if, one_of}
 use Rattle.fs_serial.proofs.Paths.Counting.{had, had_after, no_is, on_way, on_way_more, on_way_without}
-use Rattle.fs_serial.proofs.Paths.Returning.{as_many_back, flight_append, gone_say, left_out, recalls_bring_none, recalls_say, returned_says}
+use Rattle.fs_serial.proofs.Lists.Traffic.{sent_append}
+use Rattle.fs_serial.proofs.Paths.Returning.{as_many_back, gone_say, left_out, recalls_bring_none, recalls_say, returned_says}
 use Rattle.fs_serial.proofs.Paths.Tokens.{TokensKept, nothing_made, once_then, out_then, tokens_go_on}
 
 -- ## A server asks some of its leases back
@@ -76,7 +77,7 @@ module _ (c : Cluster) (k to : ℕ) (s : Server) (prefix : List ℕ) (n : Server
   then_all = after_step k (Move prefix to) (asks_back_in prefix n s) c
 
   all_said : (f : InFlight) → In f (in_flight_from k (asks ++ gives)) → SaysPath then_all f.from f.to f.message
-  all_said f i = elim (In-append f (in_flight_from k asks) (in_flight_from k gives) (subst (In f) (flight_append k asks gives) i)) as
+  all_said f i = elim (In-append f (in_flight_from k asks) (in_flight_from k gives) (subst (In f) (sent_append k asks gives) i)) as
       (λ _. SaysPath then_all f.from f.to f.message) [
         | inl j ↦ recalls_say then_all k (recalls (is_asked_in s.map s.me prefix s.paths.held) s.paths.issued) f j
         | inr j ↦ gone_say then_all k into s.paths.issued s.paths.held (still_out c k (Move prefix to) s t at into n (asks ++ gives)) f j
@@ -87,7 +88,7 @@ module _ (c : Cluster) (k to : ℕ) (s : Server) (prefix : List ℕ) (n : Server
       ≤ on_way number c.in_flight + had number s.paths.held
   all_few number =
       let both : on_way number (in_flight_from k (asks ++ gives)) ≡ on_way number (in_flight_from k asks) + on_way number (in_flight_from k gives) =
-      ap (on_way number) (flight_append k asks gives) ∙ on_way_more number (in_flight_from k asks) (in_flight_from k gives) in
+      ap (on_way number) (sent_append k asks gives) ∙ on_way_more number (in_flight_from k asks) (in_flight_from k gives) in
       let none = recalls_bring_none number k (recalls (is_asked_in s.map s.me prefix s.paths.held) s.paths.issued) in
       let same = as_many_back number k into s.paths.issued s.paths.held in
       omega (arith, both, none, same)

@@ -1,6 +1,6 @@
 -- Every event of a client keeps all that holds of paths: servers and their messages stay, and the journal only grows.
 use Rattle.std.proofs.Common.{◌≡◌, ℕ, List, refl}
-use Rattle.std.specs.Prelude.{Option, Some, None}
+use Rattle.std.specs.Prelude.{Some}
 use Rattle.fs_ident.specs.declared.actor.Session.{Session}
 use Rattle.fs_ident.specs.declared.kind.Kind.TheVariants.{Dir}
 use Rattle.fs_msg.specs.declared.answer.Answer.{Answer}
@@ -17,7 +17,7 @@ use Rattle.fs_serial.specs.Paths.{IsOut, PathsHold}
 use Rattle.fs_serial.specs.Runs.{held_by}
 use Rattle.fs_serial.specs.World.{pushed}
 use Rattle.fs_serial.proofs.Paths.Alike.{keeps_same, true_alike}
-use Rattle.fs_serial.proofs.Paths.OffPaths.{made_one}
+use Rattle.fs_serial.proofs.OtherSessions.Gone.{dirs_pushed}
 use Rattle.fs_serial.proofs.Paths.Tokens.{says_then}
 
 -- ## Servers and their messages stay
@@ -44,15 +44,11 @@ module _ (c : Cluster) (journal : List Item) (replied : Session → List Item) (
 
 -- ## Every event
 
-made_pushed : (o : Option Item) (is : List Item) (f : List ℕ) → made is f ≡ Some Dir → made (pushed o is) f ≡ Some Dir
-made_pushed None is f m = m
-made_pushed (Some i) is f m = made_one is i f Dir m
-
-plan_keeps : {N : Type 0} (by : Session) (rest : List (ℕ × Answer)) (p : Plan N) (c : Cluster) → PathsHold c
+pub plan_keeps : {N : Type 0} (by : Session) (rest : List (ℕ × Answer)) (p : Plan N) (c : Cluster) → PathsHold c
     → PathsHold (after_plan by rest p c)
 plan_keeps by rest p c h =
     paths_later c (pushed p.out.admitted c.journal) (after_plan by rest p c).replied (after_plan by rest p c).lines
-    (λ f m. made_pushed p.out.admitted c.journal f m) h
+    (λ f m. dirs_pushed p.out.admitted c.journal f m) h
 
 pub clients_keep_paths : (by : Session) (now : ℕ) (e : ClientEvent) (c : Cluster) → PathsHold c → PathsHold (after_client by now e c)
 clients_keep_paths by now (Does o) c h = plan_keeps by (c.lines by).down (act_plan (c.lines by).client now o) c h

@@ -1,7 +1,7 @@
 -- A leader commits: whatever is on a path stays where it stood, since a directory that goes, or comes into another one, is kept, and so is
 -- on none.
 use Rattle.std.proofs.Common.{◌≡◌, ◌∙◌, ◌⊎◌, ℕ, Bool, true, false, List, [], refl, sym, ap, ap₂, subst, inl, inr}
-use Rattle.std.specs.Prelude.{Some, None, is_some, option_map, slice_get}
+use Rattle.std.specs.Prelude.{Some, None, is_some, option_map, slice_get, Option}
 use Rattle.std.specs.FinMap.{get}
 use Rattle.fs_ident.specs.Ident.{same}
 use Rattle.fs_ident.specs.In.{In}
@@ -25,7 +25,7 @@ use Rattle.fs_server.specs.Concludes.{concludes}
 use Rattle.fs_server.specs.LeadingLaws.{CommitSplits}
 use Rattle.fs_server.specs.PathSteps.{dir_here}
 use Rattle.fs_server.specs.declared.state.Server.{Server}
-use Rattle.fs_txn.specs.Deciding.{commit, effects_on, first_end, reply_of, told_effects}
+use Rattle.fs_txn.specs.Deciding.{commit, decision, effects_on, first_end, needs_path, reply_of, told_effects}
 use Rattle.fs_txn.specs.Leading.{own_effects, own_parts}
 use Rattle.fs_txn.specs.Parts.{parts_of, source_of}
 use Rattle.fs_txn.specs.declared.leader.Leader.{Leader}
@@ -33,22 +33,21 @@ use Rattle.fs_txn.specs.declared.leading.Leading.{Leading}
 use Rattle.fs_txn.specs.declared.mode.Mode2.{Mode2}
 use Rattle.fs_txn.specs.declared.mode.Mode2.TheVariants.{Freeze}
 use Rattle.fs_field.specs.declared.used.Part.{Part}
+use Rattle.fs_field.specs.declared.path.PathAnswer.{PathAnswer}
 use Rattle.fs_serial.specs.Cluster.{Cluster}
-use Rattle.fs_serial.specs.Commits.{IsCommitted}
-use Rattle.fs_serial.specs.Conclusions.{after_concluded}
+use Rattle.fs_serial.specs.Conclusions.{TellsCycles, after_concluded}
 use Rattle.fs_serial.specs.Fresh.{made}
 use Rattle.fs_serial.specs.KeptFiles.{FilesKept, FreezesFor}
 use Rattle.fs_serial.specs.Leading.{IsLeading, LedHolds, StaysIn}
-use Rattle.fs_serial.specs.Owed.{ends_in}
 use Rattle.fs_serial.specs.PathLaws.{IsKeptThere}
 use Rattle.fs_serial.specs.Paths.{IsOnPath, PathsHold, has_record}
 use Rattle.fs_serial.specs.Runs.{held_by}
 use Rattle.fs_serial.specs.Seen.{ClusterHolds, world_of}
-use Rattle.fs_serial.specs.World.{settled_at, sight_in}
+use Rattle.fs_serial.specs.World.{sight_in}
 use Rattle.fs_serial.proofs.DecidedEffects.CommitKeeps.{answer, held_after}
-use Rattle.fs_serial.proofs.DecidedEffects.CommitSeen.{decision_is, told_some}
+use Rattle.fs_serial.proofs.DecidedEffects.CommitSeen.{told_some}
 use Rattle.fs_serial.proofs.DecidedEffects.HeldSeen.{held_same, held_seen}
-use Rattle.fs_serial.proofs.LedOperations.Committing.{kind_there}
+use Rattle.fs_serial.proofs.LedOperations.Committing.{IsNamed, kind_there}
 use Rattle.fs_serial.proofs.Paths.Alike.{on_path}
 use Rattle.fs_serial.proofs.Paths.FilesStay.{effects_leave}
 use Rattle.fs_serial.proofs.Paths.Kept.{kept_is_on_none}
@@ -58,8 +57,9 @@ use Rattle.fs_serial.proofs.Paths.OffPaths.{made_on_path}
 use Rattle.fs_serial.proofs.Paths.Source.{kept_at_source}
 use Rattle.fs_serial.proofs.Paths.SourceParts.{in_source}
 use Rattle.fs_serial.proofs.Paths.Standing.{paths_stand}
-use Rattle.fs_serial.proofs.Transactions.FullCommits.{full_commits, is_plain}
+use Rattle.fs_serial.proofs.Transactions.FullCommits.{full_named, is_plain}
 use Rattle.fs_serial.proofs.Transactions.Tables.{In_some}
+use Rattle.fs_serial.proofs.Transactions.Agreements.{IsClear}
 
 -- what moves or goes is a file, or stays in its directory, or is kept until all is decided
 abbrev pub KeepsPlaces : TheLed → Leader → Type 0
@@ -74,7 +74,10 @@ places_kept kind mode (op.Rename sdir sname ddir dname) f (inr w) = inr (inl w)
 places_kept kind mode o f (inr w) = absurd w
 
 module _ (k skew greatest : ℕ) (c : Cluster) (s : Server) (at : slice_get c.servers k ≡ Some s) (h : ClusterHolds skew greatest c)
-    (kept : FilesKept c) (p : PathsHold c) (l : Leading) (there : In l s.leading) (yes : first_end l.leader.votes ≡ None) where
+    (kept : FilesKept c) (p : PathsHold c) (l : Leading) (there : In l s.leading) (yes : first_end l.leader.votes ≡ None)
+    (path : Option PathAnswer) (tells : TellsCycles c l path)
+    (clear : needs_path l.leader.mode l.leader.op ≡ true → IsClear l.leader path)
+    (decided_so : decision l.leader path ≡ commit l.leader (reply_of l.leader.op)) where
   here : In s c.servers
   here = In-got c.servers k s at
 
@@ -99,8 +102,8 @@ module _ (k skew greatest : ℕ) (c : Cluster) (s : Server) (at : slice_get c.se
   abbrev by : Session
   by = l.leader.session
 
-  committed : IsCommitted (sight_in (world_of s c)) by (settled_at by (ends_in c by)) d.entry d.file
-  committed = full_commits k skew greatest c s at h l there yes
+  committed : IsNamed (sight_in (world_of s c)) by d.entry d.file
+  committed = full_named k skew greatest c s at h l there yes
 
   -- it stands in the directory that loses a name
   stands : dir_here (held_by c) file ≡ Some (source_of o)
@@ -117,7 +120,7 @@ module _ (k skew greatest : ℕ) (c : Cluster) (s : Server) (at : slice_get c.se
 
   kind_made : made c.journal file ≡ Some d.kind
   kind_made = ap (made c.journal) leads.leader.file
-      ∙ (h.parts s here).0.all.kept.made d.file d.kind (kind_there (held_seen c) by d (answer k skew greatest c s at h l there yes))
+      ∙ (h.parts s here).0.all.kept.made d.file d.kind (kind_there (held_seen c) by d (answer k skew greatest c s at h l there yes path tells clear decided_so))
 
   -- a file is on no path, nor is what is kept
   pub on_none : (d.kind ≡ File) ⊎ (l.leader.mode ≡ Freeze) → IsOnPath c.servers file → ⊥
@@ -132,9 +135,13 @@ module _ (k skew greatest : ℕ) (c : Cluster) (s : Server) (at : slice_get c.se
       kept_is_on_none c q.place q.server file (source_of o) (paths_stand skew greatest c h kept) p q.there q.stands q.has q.kept on
 
   keeps : KeepsPlaces d l.leader
-  keeps =
-      places_kept d.kind l.leader.mode l.leader.op (kept.modes s here l there d leads.client.led)
-      (subst (λ (x : Op). (d.kind ≡ File) ⊎ StaysIn x) (sym leads.leader.op) (is_plain k skew greatest c s at h l there yes))
+  keeps = by (needs_path l.leader.mode l.leader.op) refl
+    where
+      by : (b : Bool) → needs_path l.leader.mode l.leader.op ≡ b → KeepsPlaces d l.leader
+      by true n = inr (inr (clear n).freezes)
+      by false n =
+          places_kept d.kind l.leader.mode l.leader.op (kept.modes s here l there d leads.client.led)
+          (subst (λ (x : Op). (d.kind ≡ File) ⊎ StaysIn x) (sym leads.leader.op) (is_plain k skew greatest c s at h l there yes n))
 
   -- what is on a path is another file, or moves within its directory
   other_or_within : (f : List ℕ) → IsOnPath c.servers f → (file ≡ f → ⊥) ⊎ ((file ≡ f) × IsWithin o)
@@ -149,12 +156,12 @@ module _ (k skew greatest : ℕ) (c : Cluster) (s : Server) (at : slice_get c.se
   -- ## What all hold
 
   abbrev then : Cluster
-  then = after_concluded k l s c
+  then = after_concluded k l path s c
 
   module _ (splits : CommitSplits) (led : LedHolds then) where
     held_then : held_by then ≡ records_after_all (held_by c) es
     held_then =
-        held_same then led ∙ held_after k skew greatest c s at h l there yes splits led
+        held_same then led ∙ held_after k skew greatest c s at h l there yes path tells clear decided_so splits led
         ∙ ap (λ (r : RecordMap). records_after_all r es) (sym same_held)
 
     pub places_stay : (f : List ℕ) → IsOnPath c.servers f → dir_here (held_by then) f ≡ dir_here (held_by c) f
@@ -182,8 +189,8 @@ module _ (k skew greatest : ℕ) (c : Cluster) (s : Server) (at : slice_get c.se
   ]
 
   pub records_stay : (lease : PathLease) (f : List ℕ) → In lease s.paths.issued → In f lease.path
-      → has_record (concludes l [] s).server f ≡ has_record s f
+      → has_record (concludes l path [] s).server f ≡ has_record s f
   records_stay lease f i among =
-      ap (λ x. is_some (get (records_after_all s.records (own_effects s.me l x)) f)) (decision_is k skew greatest c s at h l there yes)
+      ap (λ x. is_some (get (records_after_all s.records (own_effects s.me l x)) f)) decided_so
       ∙ records_left s.records f (own_effects s.me l (commit l.leader (reply_of o)))
       (λ e j. leaves_record f (on_path c s lease f here i among) e (own_among e j))

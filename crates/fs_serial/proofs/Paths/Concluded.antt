@@ -7,7 +7,10 @@ use Rattle.fs_ident.specs.declared.actor.Session.{Session}
 use Rattle.fs_ident.specs.declared.actor.TxnNo.{TxnNo}
 use Rattle.fs_ident.specs.declared.kind.Kind.TheVariants.{Dir}
 use Rattle.fs_ident.proofs.Passing.{found}
+use Rattle.fs_ident.proofs.Standing.{In-got}
 use Rattle.fs_field.specs.Table.{same_txn}
+use Rattle.fs_field.specs.declared.path.PathAnswer.{PathAnswer}
+use Rattle.fs_model.specs.declared.reply.Reply.TheVariants as reply
 use Rattle.fs_msg.specs.declared.answer.Answer.TheVariants as answer
 use Rattle.fs_msg.specs.declared.msg.Msg.{Msg}
 use Rattle.fs_msg.specs.declared.msg.Msg.TheVariants as msg
@@ -22,14 +25,14 @@ use Rattle.fs_server.specs.Server.{Stepped}
 use Rattle.fs_server.specs.declared.event.ServerEvent.{ServerEvent}
 use Rattle.fs_server.specs.declared.event.ServerEvent.TheVariants.{Turn}
 use Rattle.fs_server.specs.declared.state.Server.{Server}
-use Rattle.fs_txn.specs.Deciding.{by_path, commit, decision, first_end, needs_path, reply_of, told_effects, unless_ended}
+use Rattle.fs_txn.specs.Deciding.{commit, decision, first_end, needs_path, reply_of, told_effects}
 use Rattle.fs_txn.specs.Leading.{elsewhere, end_of_decision, leading_of, own_parts}
 use Rattle.fs_txn.specs.Votes.{is_full}
 use Rattle.fs_txn.specs.declared.decision.Decision.{Decision}
 use Rattle.fs_txn.specs.declared.decision.Decision.TheVariants.{Abort}
 use Rattle.fs_txn.specs.declared.leading.Leading.{Leading}
 use Rattle.fs_serial.specs.Cluster.{Cluster, after_step}
-use Rattle.fs_serial.specs.Conclusions.{TellsItems, after_concluded}
+use Rattle.fs_serial.specs.Conclusions.{TellsCycles, TellsItems, after_concluded}
 use Rattle.fs_serial.specs.KeptFiles.{FilesKept}
 use Rattle.fs_serial.specs.Leading.{LedHolds}
 use Rattle.fs_serial.specs.Paths.{LeavesPaths, PathsHold}
@@ -38,12 +41,12 @@ use Rattle.fs_serial.proofs.Lists.SetAt.{get_here}
 use Rattle.fs_serial.proofs.Paths.ClientsKeep.{paths_later}
 use Rattle.fs_serial.proofs.Paths.Committed.{places_stay, records_stay}
 use Rattle.fs_serial.proofs.Paths.KeptOff.{freed_less}
-use Rattle.fs_serial.proofs.Paths.OffPaths.{made_kept}
+use Rattle.fs_serial.proofs.Lists.Journals.{made_kept}
 use Rattle.fs_serial.proofs.Paths.Together.{others_keep}
 use Rattle.fs_serial.proofs.Paths.Untold.{AreQuietWords, AreSilent, IsQuietWord, SaysNoPath}
 use Rattle.fs_serial.proofs.Paths.Untold.{answers_quiet, none_quiet, quiet_both, quiet_silent, silent_both, silent_sent, word_step_leaves}
-use Rattle.fs_serial.proofs.Transactions.Aborted.{none_told}
 use Rattle.fs_serial.proofs.Transactions.Tables.{leading_set}
+use Rattle.fs_serial.proofs.Transactions.Agreements.{Decides, IsClear, TellsNone, aborts, carries, cycle_tells_none, cycles, decides_so, none_told}
 use Rattle.fs_serial.proofs.WholeRuns.LedEvents.{same_cluster}
 use Rattle.fs_serial.proofs.WholeRuns.LedKept.{all_keep_led}
 
@@ -62,45 +65,60 @@ tells_silent txn d (x ∷ xs) to m (inl e) =
     subst SaysNoPath (sym same) tt
 tells_silent txn d (x ∷ xs) to m (inr i) = tells_silent txn d xs to m i
 
-module _ (skew greatest k : ℕ) (c : Cluster) (s : Server) (l : Leading) (at : slice_get c.servers k ≡ Some s)
-    (h : ClusterHolds skew greatest c) (kept : FilesKept c) (p : PathsHold c) where
+module _ (skew greatest k : ℕ) (c : Cluster) (s : Server) (l : Leading) (path : Option PathAnswer) (at : slice_get c.servers k ≡ Some s)
+    (h : ClusterHolds skew greatest c) (tells_so : TellsCycles c l path) (kept : FilesKept c) (p : PathsHold c) where
   abbrev x : Stepped
-  x = concludes l [] s
+  x = concludes l path [] s
 
   abbrev out : List (ℕ × ℕ)
   out = elsewhere s.me l
 
-  -- ## It is not carried out
+  -- ## It changes nothing
 
-  abort_leaves : (e : LedEnd)
-      → LeavesPaths k Turn s (ends_with (Abort e) out l [] s) c (after_step k Turn (ends_with (Abort e) out l [] s) c)
-  abort_leaves e =
-      let y : Stepped = ends_with (Abort e) out l [] s in
-      word_step_leaves c k Turn s y at (record {
+  -- no part is told to do anything
+  tells_none : (d : Decision) → TellsNone d → (out : List (ℕ × ℕ)) → AreQuietWords (tells l.leader.txn d out)
+  tells_none d none [] to m i = absurd i
+  tells_none d none (n ∷ ns) to m (inl q) =
+      let told : PeerMsg = peer.Decide (record { txn = l.leader.txn; number = n.0; effects = told_effects d n.0 }) in
+      let word : msg.Peer m ≡ msg.Peer told = ap (λ (y : Peer × Msg). y.1) q in
+      let same : m ≡ told = cc word in
+      subst IsQuietWord (sym same) (record { path = tt; parcel = refl; effects = none n.0 })
+  tells_none d none (n ∷ ns) to m (inr i) = tells_none d none ns to m i
+
+  unapplied_leaves : (d : Decision) → TellsNone d
+      → LeavesPaths k Turn s (ends_with d out l [] s) c (after_step k Turn (ends_with d out l [] s) c)
+  unapplied_leaves d none =
+      let y : Stepped = ends_with d out l [] s in
+      let silent : Stepped = record y { out = record (y.out) { admitted = [] } } in
+      let now : List (Peer × Msg) = ends_now out l.leader.session (end_of_decision d) in
+      let q : LeavesPaths k Turn s silent c (after_step k Turn silent c) =
+      word_step_leaves c k Turn s silent at (record {
         server = record {
           me = refl;
-          records = ap (records_after_all s.records) (none_told e (own_parts s.me l));
+          records = ap (records_after_all s.records) (none_told d none (own_parts s.me l));
           issued = refl;
           held = refl;
           given = refl;
           kept = λ f is. inl (freed_less s l.leader.txn f is);
         };
         admitted = refl;
-        sent = quiet_both (tells l.leader.txn (Abort e) out) (ends_now out l.leader.session e) (tells_none out)
-            (now_quiet out l.leader.session e);
+        sent = quiet_both (tells l.leader.txn d out) now (tells_none d none out) (now_quiet out l.leader.session (end_of_decision d));
         takes = record { parcels = refl; effects = refl };
         taken = λ number. refl;
-      })
-    where
-      -- no part is told to do anything
-      tells_none : (out : List (ℕ × ℕ)) → AreQuietWords (tells l.leader.txn (Abort e) out)
-      tells_none [] to m i = absurd i
-      tells_none (n ∷ ns) to m (inl q) =
-          let told : PeerMsg = peer.Decide (record { txn = l.leader.txn; number = n.0; effects = [] }) in
-          let word : msg.Peer m ≡ msg.Peer told = ap (λ (y : Peer × Msg). y.1) q in
-          let same : m ≡ told = cc word in
-          subst IsQuietWord (sym same) (record { path = tt; parcel = refl; effects = refl })
-      tells_none (n ∷ ns) to m (inr i) = tells_none ns to m i
+      }) in
+      record {
+        me = refl;
+        issued = refl;
+        held = refl;
+        kept = q.kept;
+        given = refl;
+        sent = silent_sent (after_step k Turn y c) k y.out.send (silent_both (tells l.leader.txn d out) now (tells_silent l.leader.txn d out)
+            (quiet_silent now (now_quiet out l.leader.session (end_of_decision d))));
+        taken = λ number. refl;
+        journal = λ f e. made_kept c.journal y.out.admitted f Dir e;
+        up = q.up;
+        here = q.here;
+      }
 
   -- ## It is
 
@@ -108,10 +126,11 @@ module _ (skew greatest k : ℕ) (c : Cluster) (s : Server) (l : Leading) (at : 
     abbrev pub there : In l s.leading
     there = (found (λ (z : Leading). same_txn z.leader.txn l.leader.txn) s.leading l leading).0
 
-    led : LedHolds (after_concluded k l s c)
-    led = (all_keep_led skew greatest k c s at h).concluded l leading full
+    led : LedHolds (after_concluded k l path s c)
+    led = (all_keep_led skew greatest k c s at h).concluded l path tells_so leading full
 
-    module _ (yes : first_end l.leader.votes ≡ None) where
+    module _ (yes : first_end l.leader.votes ≡ None) (clear : needs_path l.leader.mode l.leader.op ≡ true → IsClear l.leader path)
+        (decided_so : decision l.leader path ≡ commit l.leader (reply_of l.leader.op)) where
       commit_leaves : LeavesPaths k Turn s x c (after_step k Turn x c)
       commit_leaves = record {
         me = refl;
@@ -120,51 +139,51 @@ module _ (skew greatest k : ℕ) (c : Cluster) (s : Server) (l : Leading) (at : 
         kept = λ f is. inl (freed_less s l.leader.txn f is);
         given = refl;
         sent =
-            let y : Decision = decision l.leader None in
+            let y : Decision = decision l.leader path in
             let now : List (Peer × Msg) = ends_now out l.leader.session (end_of_decision y) in
             silent_sent (after_step k Turn x c) k x.out.send
             (silent_both (tells l.leader.txn y out) now (tells_silent l.leader.txn y out)
             (quiet_silent now (now_quiet out l.leader.session (end_of_decision y))));
         taken = λ number. refl;
         journal = λ f e. made_kept c.journal x.out.admitted f Dir e;
-        up = places_stay k skew greatest c s at h kept p l there yes splits led;
-        here = records_stay k skew greatest c s at h kept p l there yes;
+        up = places_stay k skew greatest c s at h kept p l there yes path tells_so clear decided_so splits led;
+        here = records_stay k skew greatest c s at h kept p l there yes path tells_so clear decided_so;
       }
 
     -- ## Whatever the decision
 
-    leaves : (o : Option LedEnd) → first_end l.leader.votes ≡ o → LeavesPaths k Turn s x c (after_step k Turn x c)
-    leaves None none = commit_leaves none
-    leaves (Some e) ends =
-        let is : decision l.leader None ≡ Abort e =
-        ap (λ o. unless_ended o (cond (needs_path l.leader.mode l.leader.op) (by_path l.leader None)
-        (commit l.leader (reply_of l.leader.op)))) ends in
+    leaves : Decides l.leader path → LeavesPaths k Turn s x c (after_step k Turn x c)
+    leaves (carries none clear is) = commit_leaves none clear is
+    leaves (cycles none n on is) =
         subst (λ (y : Decision). LeavesPaths k Turn s (ends_with y out l [] s) c (after_step k Turn (ends_with y out l [] s) c)) (sym is)
-        (abort_leaves e)
+        (unapplied_leaves (commit l.leader reply.Cycle) (cycle_tells_none l.leader))
+    leaves (aborts e is) =
+        subst (λ (y : Decision). LeavesPaths k Turn s (ends_with y out l [] s) c (after_step k Turn (ends_with y out l [] s) c)) (sym is)
+        (unapplied_leaves (Abort e) (λ i. refl))
 
-    pub decision_keeps_paths : PathsHold (after_concluded k l s c)
+    pub decision_keeps_paths : PathsHold (after_concluded k l path s c)
     decision_keeps_paths =
-        let then : Cluster = after_concluded k l s c in
+        let then : Cluster = after_concluded k l path s c in
         paths_later (after_step k Turn x c) then.journal then.replied then.lines (λ f e. e)
-        (others_keep c k Turn s x p at (leaves (first_end l.leader.votes) refl))
+        (others_keep c k Turn s x p at (leaves (decides_so l.leader (h.led.leading s (In-got c.servers k s at) l there).led.kind path (h.led.leading s (In-got c.servers k s at) l there).leader.mode)))
 
 -- ## It waits, and is decided then
 
 module _ (skew greatest k : ℕ) (c : Cluster) (s : Server) (at : slice_get c.servers k ≡ Some s) (e : ServerEvent) (tells : TellsItems e)
-    (splits : CommitSplits) (n : ServerNote) (l : Leading) (sent : List (Peer × Msg)) (t : Server) where
+    (splits : CommitSplits) (n : ServerNote) (l : Leading) (path : Option PathAnswer) (sent : List (Peer × Msg)) (t : Server) where
   abbrev first : Stepped
   first = waits n l sent t
 
   abbrev behind : Cluster
   behind = after_step k e first c
 
-  pub goes_on_keeps_paths : (h : ClusterHolds skew greatest behind) → FilesKept behind → PathsHold behind
-      → PathsHold (after_step k e (goes_on n l sent t) c)
-  goes_on_keeps_paths h kept p = by (is_full l.leader.votes) refl
+  pub goes_on_keeps_paths : (h : ClusterHolds skew greatest behind) → TellsCycles behind l path → FilesKept behind → PathsHold behind
+      → PathsHold (after_step k e (goes_on n l path sent t) c)
+  goes_on_keeps_paths h tell kept p = by (is_full l.leader.votes) refl
     where
-      by : (b : Bool) → is_full l.leader.votes ≡ b → PathsHold (after_step k e (cond b (concludes l sent t) first) c)
+      by : (b : Bool) → is_full l.leader.votes ≡ b → PathsHold (after_step k e (cond b (concludes l path sent t) first) c)
       by true full =
-          subst PathsHold (same_cluster skew greatest k c s at e tells splits n l sent t)
-          (decision_keeps_paths skew greatest k behind first.server l (get_here c.servers k s first.server at) h kept p
+          subst PathsHold (same_cluster skew greatest k c s at e tells splits n l path sent t)
+          (decision_keeps_paths skew greatest k behind first.server l path (get_here c.servers k s first.server at) h tell kept p
           (leading_set l t.leading) full splits)
       by false full = p

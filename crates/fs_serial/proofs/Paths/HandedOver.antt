@@ -1,23 +1,23 @@
 -- What a server hands over is on none of its paths: a move that is made leaves path leases alone, and so does one that is refused for
 -- another cause than paths.
-use Rattle.std.proofs.Common.{◌≡◌, ◌∙◌, ◌==◌, ℕ, Bool, true, false, not, List, refl, sym, ap, subst, cond, inl, inr}
+use Rattle.std.proofs.Common.{◌≡◌, ◌∙◌, ◌==◌, ℕ, Bool, false, not, List, refl, sym, ap, subst, cond, inl, inr}
 use Rattle.std.specs.Prelude.{Option, Some, None, is_some, slice_get}
 use Rattle.std.specs.FinMap.{get}
-use Rattle.std.specs.List.{find}
 use Rattle.fs_ident.specs.In.{In}
 use Rattle.fs_ident.specs.Ordered.{Keyed}
 use Rattle.fs_ident.specs.declared.actor.PathNo.{PathNo}
 use Rattle.fs_ident.specs.declared.actor.TxnNo.{TxnNo}
 use Rattle.fs_ident.proofs.Options.{cond_none}
-use Rattle.fs_ident.proofs.Standing.{none_any, none_pass}
+use Rattle.fs_ident.proofs.Standing.{none_any}
 use Rattle.fs_map.specs.Lists.{piece_of}
 use Rattle.fs_map.specs.Map.{gives, is_given, server_of}
 use Rattle.fs_map.proofs.Owned.{piece_piece}
 use Rattle.fs_msg.specs.declared.server_note.ServerNote.{ServerNote}
 use Rattle.fs_parcel.specs.Parcel.{busy_or, paths_out}
 use Rattle.fs_parcel.proofs.Refused.{is_mine}
-use Rattle.fs_path.specs.Leases.{PathLease, goes_into, lesser_no, path_before}
+use Rattle.fs_path.specs.Leases.{PathLease}
 use Rattle.fs_path.specs.Tables.{first_in}
+use Rattle.fs_path.proofs.LeaseLaws.{none_into}
 use Rattle.fs_record.specs.declared.record.Record.{Record}
 use Rattle.fs_record.proofs.Parting.{left_at}
 use Rattle.fs_rows.specs.Moving.{locked_in}
@@ -30,7 +30,6 @@ use Rattle.fs_server.specs.declared.state.Server.{Server}
 use Rattle.fs_serial.specs.Cluster.{Cluster, InFlight, after_step}
 use Rattle.fs_serial.specs.Paths.{LeavesPaths, SaysPath, has_path, has_record}
 use Rattle.fs_serial.specs.Places.{PlacesHold}
-use Rattle.fs_serial.proofs.Lists.Journals.{none_mapped}
 use Rattle.fs_serial.proofs.Moves.Leaving.{leaving_keeps}
 use Rattle.fs_serial.proofs.Moves.PathSteps.{refusal_here}
 use Rattle.fs_serial.proofs.Paths.SameSpace.{IsPathStep, same_space}
@@ -51,23 +50,10 @@ none_in prefix to s may =
     let other = cond_none (to == s.me) _ _ lives.1 in
     no_path_out (locked_in prefix s.map s.me s.rows) (first_in s.map s.me prefix s.paths) other.1
 
--- where neither of two numbers is there, the first one is not
-first_none : (a b : Option PathNo) → lesser_no a b ≡ None → a ≡ None
-first_none None b e = refl
-first_none (Some a) None e = absurd (cc e)
-first_none (Some a) (Some b) e = by (path_before b a) e
-  where
-    by : (c : Bool) → cond c (Some b) (Some a) ≡ None → Some a ≡ None
-    by true q = absurd (cc q)
-    by false q = absurd (cc q)
-
 none_over : (prefix : List ℕ) (s : Server) → first_in s.map s.me prefix s.paths ≡ None → (l : PathLease) → In l s.paths.issued → (f : List ℕ)
     → In f l.path → is_given s.map s.me prefix f ≡ false
 none_over prefix s none l i f m =
-    let into : goes_into s.map s.me prefix l ≡ false =
-    none_pass (goes_into s.map s.me prefix) s.paths.issued
-    (none_mapped (λ (x : PathLease). x.no) (find (goes_into s.map s.me prefix) s.paths.issued) (first_none _ _ none)) l i in
-    none_any (is_given s.map s.me prefix) l.path into f m
+    none_any (is_given s.map s.me prefix) l.path ((none_into s.map s.me prefix s.paths none).0 l i) f m
 
 -- ## A move that is made
 

@@ -27,7 +27,8 @@ use Rattle.fs_server.specs.Begins.{Round, asked_part, first_round, leader_with, 
 use Rattle.fs_server.specs.Concludes.{waits}
 use Rattle.fs_server.specs.Counts.{ask_for}
 use Rattle.fs_server.specs.Follows.{paths_kept, recalls_for, to_server, vote_here}
-use Rattle.fs_server.specs.Leads.{lead_refusal, mode_of, refuses}
+use Rattle.fs_server.specs.Leads.{mode_of, refuses}
+use Rattle.fs_server.specs.Laws.{BeginsIn}
 use Rattle.fs_server.specs.Server.{Stepped, is_mine}
 use Rattle.fs_server.specs.declared.event.ServerEvent.{ServerEvent}
 use Rattle.fs_server.specs.declared.event.ServerEvent.TheVariants.{FromClient}
@@ -42,6 +43,7 @@ use Rattle.fs_serial.specs.Cluster.{Cluster, IsThere, after_step, in_flight_from
 use Rattle.fs_serial.specs.KeptFiles.{FilesKept, FreezesFor, KeepsFiles}
 use Rattle.fs_serial.specs.Seen.{ClusterHolds}
 use Rattle.fs_serial.specs.Words.{said_at}
+use Rattle.fs_serial.specs.Leading.{ComesInto, IsMode}
 use Rattle.fs_serial.proofs.Moves.Parcels.{parcels-append}
 use Rattle.fs_serial.proofs.Paths.KeptAfter.{modes_still}
 use Rattle.fs_serial.proofs.Paths.KeptHere.{IsKeptIn, KeepsAll, keeps_more, kept_still, kept_there}
@@ -49,10 +51,12 @@ use Rattle.fs_serial.proofs.Paths.KeptQuiet.{quiet_keeps, same_prepared}
 use Rattle.fs_serial.proofs.Transactions.PutOff.{put_off_keeps}
 use Rattle.fs_serial.proofs.Transactions.Recalled.{recalls_hand_nothing}
 use Rattle.fs_serial.proofs.Transactions.RoundsLocks.{is_said, not_said, round_at, round_by, round_me, round_votes}
-use Rattle.fs_serial.proofs.Transactions.RoundsLocks.{rounds_undecided, sent_append}
+use Rattle.fs_serial.proofs.Transactions.RoundsLocks.{rounds_undecided}
+use Rattle.fs_serial.proofs.Lists.Traffic.{sent_append}
 use Rattle.fs_serial.proofs.Transactions.RoundsStages.{rounds_server}
 use Rattle.fs_serial.proofs.Transactions.Tables.{in_with_leading}
 use Rattle.fs_serial.proofs.Transactions.YesParts.{said_then}
+use Rattle.fs_serial.proofs.Transactions.Agreements.{mode_begun}
 use Rattle.fs_serial.proofs.WholeRuns.LedKept.{all_keep_led, asked}
 
 -- ## What the first parts keep
@@ -158,6 +162,14 @@ mode_for kind (op.Close f n) = tt
 mode_for kind (op.Set f n size stamp) = tt
 mode_for kind (op.Reap f session) = tt
 
+mode_so : (kind : Kind) (mode : Mode2) (o : Op) → IsMode mode kind o → FreezesFor kind mode o
+mode_so kind mode o (inl e) = subst (λ x. FreezesFor kind x o) (sym e) (mode_for kind o)
+mode_so kind mode o (inr q) = comes_freezes kind mode o q.1
+  where
+    comes_freezes : (kind : Kind) (mode : Mode2) (o : Op) → ComesInto kind o → FreezesFor kind mode o
+    comes_freezes Dir mode (op.Rename sdir sname ddir dname) h = tt
+    comes_freezes kind mode o h = absurd h
+
 module _ (skew greatest k : ℕ) (c : Cluster) (s : Server) (at : slice_get c.servers k ≡ Some s) (h : ClusterHolds skew greatest c)
     (f : FilesKept c) (by : Session) (m : ToLead) (comes : IsThere k (FromClient by (Lead m)) c) where
   abbrev here : In s c.servers
@@ -169,70 +181,68 @@ module _ (skew greatest k : ℕ) (c : Cluster) (s : Server) (at : slice_get c.se
   abbrev txn : TxnNo
   txn = txn_of s
 
-  abbrev mode : Mode2
-  mode = mode_of m.op m.kind
+  module _ (mode : Mode2) where
+    abbrev r : Round
+    r = round_of mode by m s
 
-  abbrev r : Round
-  r = round_of mode by m s
+    abbrev new : Leading
+    new = record { leader = leader_with mode txn by m r.votes; at = r.at }
 
-  abbrev new : Leading
-  new = record { leader = leader_with mode txn by m r.votes; at = r.at }
+    abbrev x : Stepped
+    x = waits (note.Prepares txn) new r.send r.server
 
-  abbrev x : Stepped
-  x = waits (note.Prepares txn) new r.send r.server
+    left : r.server ≡ (let z : Server = record s { txns = s.txns + 1; rows = r.server.rows; paths = r.server.paths } in z)
+    left = rounds_server txn 0 by (parts_in mode m) (first_round s)
 
-  left : r.server ≡ (let z : Server = record s { txns = s.txns + 1; rows = r.server.rows; paths = r.server.paths } in z)
-  left = rounds_server txn 0 by (parts_in mode m) (first_round s)
+    kept : KeptSoFar mode txn by m s.me s r
+    kept = rounds_kept mode txn by m s.me s (parts_in mode m) 0 (first_round s)
+        (λ i p is. subst (λ n. slice_get (parts_in mode m) n ≡ Some p) (let t : i ≡ 0 + i = omega arith in t) is) refl refl refl
+        (record { still = λ z i. i; said = λ y i. absurd i })
 
-  kept : KeptSoFar mode txn by m s.me s r
-  kept = rounds_kept mode txn by m s.me s (parts_in mode m) 0 (first_round s)
-      (λ i p is. subst (λ n. slice_get (parts_in mode m) n ≡ Some p) (let t : i ≡ 0 + i = omega arith in t) is) refl refl refl
-      (record { still = λ z i. i; said = λ y i. absurd i })
+    -- what the server has then
+    abbrev t : Server
+    t = record s { txns = s.txns + 1; rows = r.server.rows; paths = r.server.paths; leading = with_leading new s.leading }
 
-  -- what the server has then
-  abbrev t : Server
-  t = record s { txns = s.txns + 1; rows = r.server.rows; paths = r.server.paths; leading = with_leading new s.leading }
+    is_t : x.server ≡ t
+    is_t = ap (λ (z : Server). let y : Server = record z { leading = with_leading new z.leading } in y) left
 
-  is_t : x.server ≡ t
-  is_t = ap (λ (z : Server). let y : Server = record z { leading = with_leading new z.leading } in y) left
+    keeps : KeepsFiles x.server
+    keeps = subst KeepsFiles (sym is_t) (keeps_more s t (f.here s here) kept.still
+        (λ y i. In-both y (map agreed_of s.prepared) (flat_map (said_by s.me) (with_leading new s.leading))
+        (In y (said_at s) ⊎ IsKeptIn t.paths y)
+        (λ j. inl (In-front y (map agreed_of s.prepared) (flat_map (said_by s.me) s.leading) j))
+        (λ j. elim (said_then s.me new s.leading y j) as (λ _. In y (said_at s) ⊎ IsKeptIn t.paths y) [
+          | inl n ↦ inr (kept.said y n)
+          | inr n ↦ inl (In-behind y (map agreed_of s.prepared) (flat_map (said_by s.me) s.leading) n)
+        ])
+        i))
 
-  keeps : KeepsFiles x.server
-  keeps = subst KeepsFiles (sym is_t) (keeps_more s t (f.here s here) kept.still
-      (λ y i. In-both y (map agreed_of s.prepared) (flat_map (said_by s.me) (with_leading new s.leading))
-      (In y (said_at s) ⊎ IsKeptIn t.paths y)
-      (λ j. inl (In-front y (map agreed_of s.prepared) (flat_map (said_by s.me) s.leading) j))
-      (λ j. elim (said_then s.me new s.leading y j) as (λ _. In y (said_at s) ⊎ IsKeptIn t.paths y) [
-        | inl n ↦ inr (kept.said y n)
-        | inr n ↦ inl (In-behind y (map agreed_of s.prepared) (flat_map (said_by s.me) s.leading) n)
-      ])
-      i))
+    modes : BeginsIn m s mode → (l : Leading) → In l x.server.leading → (d : Led) → (c.lines l.leader.session).client.led ≡ Some d
+        → FreezesFor d.kind l.leader.mode l.leader.op
+    modes accepted l i d led =
+        elim (in_with_leading new s.leading l (subst (λ (z : Server). In l z.leading) is_t i)) as
+        (λ _. FreezesFor d.kind l.leader.mode l.leader.op) [
+          | inl is ↦
+              let its = asked skew greatest k c s at h by m comes in
+              let both : Some d ≡ Some its.led = sym led ∙ ap (λ (z : Leading). (c.lines z.leader.session).client.led) is ∙ its.is in
+              let same : d ≡ its.led = cc in
+              let kind : d.kind ≡ m.kind = ap (λ (z : Led). z.kind) same ∙ sym (ap (λ (z : ToLead). z.kind) its.told) in
+              subst (λ (z : Leading). FreezesFor d.kind z.leader.mode z.leader.op) (sym is)
+              (subst (λ z. FreezesFor z mode m.op) (sym kind) (mode_so m.kind mode m.op (mode_begun m s mode accepted)))
+          | inr j ↦ f.modes s here l j.0 d led
+        ]
 
-  modes : lead_refusal s m ≡ None → (l : Leading) → In l x.server.leading → (d : Led) → (c.lines l.leader.session).client.led ≡ Some d
-      → FreezesFor d.kind l.leader.mode l.leader.op
-  modes accepted l i d led =
-      elim (in_with_leading new s.leading l (subst (λ (z : Server). In l z.leading) is_t i)) as
-      (λ _. FreezesFor d.kind l.leader.mode l.leader.op) [
-        | inl is ↦
-            let its = asked skew greatest k c s at h by m comes accepted in
-            let both : Some d ≡ Some its.led = sym led ∙ ap (λ (z : Leading). (c.lines z.leader.session).client.led) is ∙ its.is in
-            let same : d ≡ its.led = cc in
-            let kind : d.kind ≡ m.kind = ap (λ (z : Led). z.kind) same ∙ sym (ap (λ (z : ToLead). z.kind) its.told) in
-            subst (λ (z : Leading). FreezesFor d.kind z.leader.mode z.leader.op) (sym is)
-            (subst (λ z. FreezesFor z mode m.op) (sym kind) (mode_for m.kind m.op))
-        | inr j ↦ f.modes s here l j.0 d led
-      ]
-
-  pub begun_kept : lead_refusal s m ≡ None → FilesKept (after_step k e x c)
-  begun_kept accepted = quiet_keeps k c s at e x f (record {
-    led = (all_keep_led skew greatest k c s at h).begun by m comes accepted;
-    records = ap (λ (z : Server). z.records) left;
-    taken = refl;
-    hands = rounds_hand k txn 0 by (parts_in mode m) (first_round s) refl;
-    tells = rounds_undecided k txn 0 by (parts_in mode m) (first_round s) (λ key place effects i. i);
-    here = keeps;
-    prepared = same_prepared c s x.server (ap (λ (z : Server). z.prepared) left);
-    modes = modes accepted;
-  })
+    pub begun_kept : BeginsIn m s mode → FilesKept (after_step k e x c)
+    begun_kept accepted = quiet_keeps k c s at e x f (record {
+      led = (all_keep_led skew greatest k c s at h).begun by m comes mode accepted;
+      records = ap (λ (z : Server). z.records) left;
+      taken = refl;
+      hands = rounds_hand k txn 0 by (parts_in mode m) (first_round s) refl;
+      tells = rounds_undecided k txn 0 by (parts_in mode m) (first_round s) (λ key place effects i. i);
+      here = keeps;
+      prepared = same_prepared c s x.server (ap (λ (z : Server). z.prepared) left);
+      modes = modes accepted;
+    })
 
   pub put_off_kept : (w : Why) → FilesKept (after_step k e (refuses by w s) c)
   put_off_kept w = quiet_keeps k c s at e (refuses by w s) f (record {

@@ -29,7 +29,7 @@ use Rattle.fs_serial.proofs.Transactions.ClientsWait.{client_waits}
 use Rattle.fs_serial.proofs.WholeRuns.ClusterClients.{some_server}
 
 module _ (skew greatest now : ℕ) (c : Cluster) (by : Session) (h : ClusterHolds skew greatest c) (f : FilesKept c) where
-  few_one : length (ends_in c by).up + length (due (ends_in c by).down) ≤ 1
+  pub few_one : length (ends_in c by).up + length (due (ends_in c by).down) ≤ 1
   few_one = let q = some_server c h.places in one_each skew greatest c h q.0 q.1 by
 
   module _ {N : Type 0} (rest : List (ℕ × Answer)) (p : Plan N) (waits : LeavesLedClient by c (after_plan by rest p c).lines) where
@@ -60,7 +60,7 @@ module _ (skew greatest now : ℕ) (c : Cluster) (by : Session) (h : ClusterHold
         let same : d ≡ q.led = cc in
         f.modes s i l j d (q.client.led ∙ ap Some (sym same))
 
-    plan_kept : FilesKept then
+    pub plan_kept : FilesKept then
     plan_kept = record {
       here = f.here;
       told = λ s i x j place effects told e n.

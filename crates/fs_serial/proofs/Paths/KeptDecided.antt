@@ -29,7 +29,8 @@ use Rattle.fs_serial.proofs.DecidedEffects.Applying.{apart}
 use Rattle.fs_serial.proofs.DecidedEffects.DecideSeen.{before, behind, its, left_before, own, records_then, whole}
 use Rattle.fs_serial.proofs.Paths.KeptAfter.{kept_after, modes_still, tells_still}
 use Rattle.fs_serial.proofs.Paths.KeptHere.{keeps_alike, keeps_left}
-use Rattle.fs_serial.proofs.Paths.KeptPlaces.{PlaceLeft, apart_left, made_still}
+use Rattle.fs_serial.proofs.Lists.Journals.{made_kept}
+use Rattle.fs_serial.proofs.Paths.KeptPlaces.{PlaceLeft, apart_left}
 use Rattle.fs_serial.proofs.Paths.KeptQuiet.{led_still, quiet_keeps}
 use Rattle.fs_serial.proofs.Transactions.AwaitedWords.{IsAwaitedBy, decide_awaited, done_awaited, done_is}
 use Rattle.fs_serial.proofs.Transactions.LedDecided.{led_decided, own_others, said_then, told_before}
@@ -79,7 +80,7 @@ module _ (skew greatest k : ℕ) (c : Cluster) (s : Server) (at : slice_get c.se
       here = applied_here;
       prepared = λ y i. inl (In-filter (λ (z : Ready). not (is_part m.txn m.number z)) y s.prepared i);
       told = tells_still c after f (led_decided k from c s at h.led me m comes) (told_before k from c s at h.led me m comes) places_left
-          (made_still c.journal []);
+          (made_kept c.journal []);
       clients = led_still k c s at decides (applies from m s);
       modes = modes_still c s t here f refl;
     })

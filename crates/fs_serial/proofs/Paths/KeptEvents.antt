@@ -1,7 +1,7 @@
 -- Every event of every server keeps what servers keep: a transaction waits in the event in which its last vote is counted, and then it is
 -- decided.
-use Rattle.std.proofs.Common.{◌≡◌, ◌==◌, ℕ, Bool, true, false, List, [], cond, refl, sym, ap, subst}
-use Rattle.std.specs.Prelude.{Option, Some, None, slice_get}
+use Rattle.std.proofs.Common.{◌≡◌, ◌∙◌, ◌==◌, ℕ, Bool, true, false, List, [], cond, refl, sym, ap, subst}
+use Rattle.std.specs.Prelude.{Option, Some, slice_get}
 use Rattle.fs_ident.specs.In.{In}
 use Rattle.fs_ident.specs.declared.actor.Peer.{Peer}
 use Rattle.fs_ident.specs.declared.actor.Session.{Session}
@@ -9,6 +9,7 @@ use Rattle.fs_ident.proofs.Standing.{In-got}
 use Rattle.fs_field.specs.declared.used.Part.{Part}
 use Rattle.fs_field.specs.declared.vote.Vote.{Vote}
 use Rattle.fs_field.specs.declared.vote.Vote.TheVariants as vote
+use Rattle.fs_field.specs.declared.path.PathAnswer.{PathAnswer}
 use Rattle.fs_map.specs.Map.{server_of}
 use Rattle.fs_msg.specs.declared.client_msg.ClientMsg.{ClientMsg}
 use Rattle.fs_msg.specs.declared.client_msg.ClientMsg.TheVariants.{Ask, Renew, Release, Ship, Lead}
@@ -19,22 +20,23 @@ use Rattle.fs_msg.specs.declared.peer_msg.PeerMsg.TheVariants as peer
 use Rattle.fs_msg.specs.declared.server_note.ServerNote.{ServerNote}
 use Rattle.fs_msg.specs.declared.server_note.ServerNote.TheVariants as note
 use Rattle.fs_msg.specs.declared.voted.Voted.{Voted as VotedMsg}
-use Rattle.fs_record.specs.declared.led_end.Why.{Why}
+use Rattle.fs_record.specs.declared.led_end.Why.TheVariants as why
 use Rattle.fs_server.specs.Begins.{leader_with, round_of, txn_of}
-use Rattle.fs_server.specs.Concludes.{concludes, goes_on, waits}
+use Rattle.fs_server.specs.Concludes.{concludes, goes_on, path_for, waits}
 use Rattle.fs_server.specs.Counts.{after_own_vote, asked_at, comes_home, counts, counts_own, seeks, sent_on, vote_step, voted, with_vote}
 use Rattle.fs_server.specs.Follows.{recalls_for, vote_here}
-use Rattle.fs_server.specs.Leads.{lead_refusal, lead_step, leads_unless, mode_of}
-use Rattle.fs_server.specs.Server.{is_mine, strange}
+use Rattle.fs_server.specs.Leads.{lead_step}
+use Rattle.fs_server.specs.Server.{Stepped, is_mine}
 use Rattle.fs_server.specs.Step.{event_step}
 use Rattle.fs_server.specs.declared.event.ServerEvent.{ServerEvent}
 use Rattle.fs_server.specs.declared.event.ServerEvent.TheVariants as event
 use Rattle.fs_server.specs.declared.state.Server.{Server}
 use Rattle.fs_server.proofs.Splitting.{commit_splits}
+use Rattle.fs_server.proofs.Leading.{LeadEnds, begun, kept, lead_ends, put_off, unled, wanted}
 use Rattle.fs_txn.specs.Votes.{is_full, is_moved}
 use Rattle.fs_txn.specs.declared.leading.Leading.{Leading}
 use Rattle.fs_serial.specs.Cluster.{Cluster, IsThere, after_step}
-use Rattle.fs_serial.specs.Conclusions.{TellsItems}
+use Rattle.fs_serial.specs.Conclusions.{PathsTell, TellsCycles, TellsItems}
 use Rattle.fs_serial.specs.KeptFiles.{FilesKept}
 use Rattle.fs_serial.specs.Seen.{ClusterHolds}
 use Rattle.fs_serial.proofs.Lists.SetAt.{get_here}
@@ -43,31 +45,32 @@ use Rattle.fs_serial.proofs.Paths.KeptCommits.{concluded_kept}
 use Rattle.fs_serial.proofs.Paths.KeptDecided.{decide_kept, done_kept}
 use Rattle.fs_serial.proofs.Paths.KeptOthers.{other_kept}
 use Rattle.fs_serial.proofs.Paths.KeptVotes.{counted_kept, own_kept, prepare_kept, sought_kept}
+use Rattle.fs_serial.proofs.Paths.Wanted.{wanted_kept}
 use Rattle.fs_serial.proofs.Transactions.AwaitedWords.{IsAwaited, vote_is}
 use Rattle.fs_serial.proofs.Transactions.Tables.{leading_set}
 use Rattle.fs_serial.proofs.WholeRuns.LedEvents.{same_cluster}
-use Rattle.fs_serial.proofs.WholeRuns.LedQuestions.{begun, led_there}
+use Rattle.fs_serial.proofs.WholeRuns.LedQuestions.{begins, led_there}
 use Rattle.fs_serial.proofs.WholeRuns.LedVotes.{counted_waits, own_waits}
 use Rattle.fs_serial.proofs.WholeRuns.LedVotes as led_votes
 
 module _ (skew greatest k : ℕ) (c : Cluster) (s : Server) (at : slice_get c.servers k ≡ Some s) (h : ClusterHolds skew greatest c)
-    (f : FilesKept c) where
+    (f : FilesKept c) (tell : PathsTell c) where
   abbrev here : In s c.servers
   here = In-got c.servers k s at
 
   -- where it waits all is kept, so it is where it is decided
-  goes_on_kept : (e : ServerEvent) → TellsItems e → (n : ServerNote) (l : Leading) (sent : List (Peer × Msg)) (t : Server)
-      → ClusterHolds skew greatest (after_step k e (waits n l sent t) c) → FilesKept (after_step k e (waits n l sent t) c)
-      → FilesKept (after_step k e (goes_on n l sent t) c)
-  goes_on_kept e tells n l sent t holds kept = by (is_full l.leader.votes) refl
+  goes_on_kept : (e : ServerEvent) → TellsItems e → (n : ServerNote) (l : Leading) (path : Option PathAnswer) (sent : List (Peer × Msg)) (t : Server)
+      → ClusterHolds skew greatest (after_step k e (waits n l sent t) c) × TellsCycles (after_step k e (waits n l sent t) c) l path → FilesKept (after_step k e (waits n l sent t) c)
+      → FilesKept (after_step k e (goes_on n l path sent t) c)
+  goes_on_kept e tells n l path sent t holds files = by (is_full l.leader.votes) refl
     where
       by : (b : Bool) → is_full l.leader.votes ≡ b
-          → FilesKept (after_step k e (cond b (concludes l sent t) (waits n l sent t)) c)
+          → FilesKept (after_step k e (cond b (concludes l path sent t) (waits n l sent t)) c)
       by true full =
-          subst FilesKept (same_cluster skew greatest k c s at e tells commit_splits n l sent t)
-          (concluded_kept skew greatest k (after_step k e (waits n l sent t) c) (waits n l sent t).server l
-          (get_here c.servers k s (waits n l sent t).server at) holds kept (leading_set l t.leading) full commit_splits)
-      by false full = kept
+          subst FilesKept (same_cluster skew greatest k c s at e tells commit_splits n l path sent t)
+          (concluded_kept skew greatest k (after_step k e (waits n l sent t) c) (waits n l sent t).server l path
+          (get_here c.servers k s (waits n l sent t).server at) holds.0 holds.1 files (leading_set l t.leading) full commit_splits)
+      by false full = files
 
   -- ## A vote comes
 
@@ -83,8 +86,8 @@ module _ (skew greatest k : ℕ) (c : Cluster) (s : Server) (at : slice_get c.se
 
     counted : is_moved m.vote ≡ false → FilesKept (after_step k e (counts m.number m.vote l s) c)
     counted stays =
-        goes_on_kept e (λ items replied. refl) (note.Waits l.leader.txn) (with_vote m.number m.vote l) [] s
-        (counted_waits skew greatest k c s at h commit_splits from m comes stays)
+        goes_on_kept e (λ items replied. refl) (note.Waits l.leader.txn) (with_vote m.number m.vote l) (path_for l.leader.mode l.leader.op s) [] s
+        (let w = counted_waits skew greatest k c s at h commit_splits from m comes stays in (w.0, w.1 tell))
         (counted_kept skew greatest k c s at h f from m comes q stays)
 
     module _ (p : Part) (part : slice_get l.leader.parts m.number ≡ Some p) (moved : is_moved m.vote ≡ true) where
@@ -92,8 +95,8 @@ module _ (skew greatest k : ℕ) (c : Cluster) (s : Server) (at : slice_get c.se
       own mine =
           let v : Vote = vote_here s l.leader.session p in
           goes_on_kept e (λ items replied. refl) (note.Waits l.leader.txn) (with_vote m.number v (asked_at m.number s.me l))
-          (recalls_for v s p) (after_own_vote l.leader.txn p v s)
-          (own_waits skew greatest k c s at h commit_splits from m comes p part moved mine)
+          (path_for l.leader.mode l.leader.op s) (recalls_for v s p) (after_own_vote l.leader.txn p v s)
+          (let w = own_waits skew greatest k c s at h commit_splits from m comes p part moved mine in (w.0, w.1 tell))
           (own_kept skew greatest k c s at h f from m comes q p part moved mine)
 
       home : (b : Bool) → is_mine s p.file ≡ b → FilesKept (after_step k e
@@ -123,18 +126,21 @@ module _ (skew greatest k : ℕ) (c : Cluster) (s : Server) (at : slice_get c.se
     abbrev asks : ServerEvent
     asks = event.FromClient by (Lead m)
 
-    by_refusal : (o : Option Why) → lead_refusal s m ≡ o → FilesKept (after_step k asks (leads_unless o by m s) c)
-    by_refusal None accepted =
-        let r = round_of (mode_of m.op m.kind) by m s in
-        goes_on_kept asks (λ items replied. refl) (note.Prepares (txn_of s))
-        (record { leader = leader_with (mode_of m.op m.kind) (txn_of s) by m r.votes; at = r.at }) r.send r.server
-        (begun skew greatest k c s at h commit_splits by m comes accepted) (begun_kept skew greatest k c s at h f by m comes accepted)
-    by_refusal (Some w) why = put_off_kept skew greatest k c s at h f by m comes w
+    by_end : (x : Stepped) → LeadEnds by m s x → FilesKept (after_step k asks x c)
+    by_end x (unled l) =
+        let wrong : true ≡ false = sym (led_there skew greatest k c s at h commit_splits by m comes) ∙ l in absurd (cc wrong)
+    by_end x (put_off w l r) = put_off_kept skew greatest k c s at h f by m comes w
+    by_end x (wanted top dir l o) = wanted_kept skew greatest k c s at h by m comes top dir f
+    by_end x (kept file txn l o) = put_off_kept skew greatest k c s at h f by m comes (why.Frozen file txn)
+    by_end x (begun mode l b) =
+        let r = round_of mode by m s in
+        let new : Leading = record { leader = leader_with mode (txn_of s) by m r.votes; at = r.at } in
+        let w = begins skew greatest k c s at h commit_splits by m comes mode b in
+        goes_on_kept asks (λ items replied. refl) (note.Prepares (txn_of s)) new (path_for mode m.op s) r.send r.server
+        (w.0, w.1 (path_for mode m.op s) (tell k s new at)) (begun_kept skew greatest k c s at h f by m comes mode b)
 
     lead_kept : FilesKept (after_step k asks (lead_step by m s) c)
-    lead_kept =
-        subst (λ b. FilesKept (after_step k asks (cond b (leads_unless (lead_refusal s m) by m s) (strange s)) c))
-        (sym (led_there skew greatest k c s at h commit_splits by m comes)) (by_refusal (lead_refusal s m) refl)
+    lead_kept = by_end (lead_step by m s) (lead_ends by m s)
 
   -- ## Every event
 

@@ -47,7 +47,8 @@ use Rattle.fs_serial.proofs.OneServer.SameStep.{IsSameStep, begun_in, turn_same}
 use Rattle.fs_serial.proofs.Paths.KeptAfter.{kept_after, modes_still, tells_still}
 use Rattle.fs_serial.proofs.Paths.KeptFrozen.{message_frozen, move_frozen}
 use Rattle.fs_serial.proofs.Paths.KeptHere.{keeps_alike}
-use Rattle.fs_serial.proofs.Paths.KeptPlaces.{PlaceLeft, left_alike, made_still}
+use Rattle.fs_serial.proofs.Lists.Journals.{made_kept}
+use Rattle.fs_serial.proofs.Paths.KeptPlaces.{PlaceLeft, left_alike}
 use Rattle.fs_serial.proofs.Paths.KeptQuiet.{led_still, told_before}
 use Rattle.fs_serial.proofs.Paths.PlacesLeft.{AllLeft, asked_left, turn_left}
 use Rattle.fs_serial.proofs.Transactions.LeavesLed.{path_leaves}
@@ -69,7 +70,7 @@ module _ (skew greatest k : ℕ) (c : Cluster) (s : Server) (at : slice_get c.se
   now = view skew greatest k c s at h
 
   -- the server's tables stay, and the places for which effects are on their way
-  stepped_kept : (e : ServerEvent) (x : Stepped) → LeavesLed k e s x c → x.server.paths.frozen ≡ s.paths.frozen
+  pub stepped_kept : (e : ServerEvent) (x : Stepped) → LeavesLed k e s x c → x.server.paths.frozen ≡ s.paths.frozen
       → ((d : Decided) → In d (decided_in c) → PlaceLeft (records_in c) (records_in (after_step k e x c)) d.effect)
       → FilesKept (after_step k e x c)
   stepped_kept e x leaves frozen left = kept_after k s x.server c (after_step k e x c) at f (record {
@@ -79,7 +80,7 @@ module _ (skew greatest k : ℕ) (c : Cluster) (s : Server) (at : slice_get c.se
     prepared = λ y i. inl (subst (In y) leaves.prepared i);
     told = tells_still c (after_step k e x c) f (step_keeps_led k e s x c at h.led leaves)
         (told_before k c s at e x (λ key place effects i. subst (In (word_to key place (Decide effects))) leaves.words i))
-        (λ d i. left d (subst (In d) (decided_after k e s x c at leaves) i)) (made_still c.journal x.out.admitted);
+        (λ d i. left d (subst (In d) (decided_after k e s x c at leaves) i)) (made_kept c.journal x.out.admitted);
     clients = led_still k c s at e x;
     modes = modes_still c s x.server here f leaves.leading;
   })

@@ -1,6 +1,6 @@
 -- What effects change is left as it is by what is apart from them: where a file stands, and what a name stands for. So a part keeps what it
 -- has to keep.
-use Rattle.std.proofs.Common.{◌≡◌, ◌∙◌, ℕ, List, [], ◌∷◌, ◌++◌, append-nil, append_assoc, refl, sym, ap, inl, inr}
+use Rattle.std.proofs.Common.{◌≡◌, ◌∙◌, ℕ, List, [], ◌∷◌, refl, sym, ap, inl, inr}
 use Rattle.std.specs.Prelude.{◌⊎◌, Option, Some, None, option_map}
 use Rattle.std.specs.FinMap.{get}
 use Rattle.fs_ident.specs.In.{In}
@@ -19,12 +19,12 @@ use Rattle.fs_record.specs.Records.{RecordMap, node_of}
 use Rattle.fs_record.specs.declared.record.Record.{Record}
 use Rattle.fs_server.specs.PathSteps.{dir_here}
 use Rattle.fs_txn.specs.Decided.{AreDecided, IsApart}
-use Rattle.fs_serial.specs.Fresh.{made, made_by, or_else}
+use Rattle.fs_serial.specs.Fresh.{made}
 use Rattle.fs_serial.specs.KeptFiles.{IsKeptFor}
 use Rattle.fs_serial.specs.World.{pushed}
 use Rattle.fs_serial.proofs.DecidedEffects.AdmitPast.{IsInside}
 use Rattle.fs_serial.proofs.DecidedEffects.Underway.{either_file, node_beside, node_changed, place_all}
-use Rattle.fs_serial.proofs.Lists.Journals.{made-append}
+use Rattle.fs_serial.proofs.Lists.Journals.{made_one}
 use Rattle.fs_serial.proofs.Paths.OnTheWay.{LeavesIn, LeavesName, dir_all, dir_in, name_all}
 
 -- ## What an effect changes
@@ -176,15 +176,6 @@ beside_left m (SetInfo a b x) ds decided apart = tt
 -- what was made is of the kind with which it was made
 abbrev pub StaysMade : List Item → List Item → Type 0
 StaysMade is more = (f : List ℕ) (kind : Kind) → made is f ≡ Some kind → made more f ≡ Some kind
-
-pub made_one : (is : List Item) (i : Item) → StaysMade is (is ++ i ∷ [])
-made_one is i f kind h = made-append is i f ∙ ap (λ o. or_else o (made_by i.op i.reply f)) h
-
-pub made_still : (is more : List Item) → StaysMade is (is ++ more)
-made_still is [] f kind h = ap (λ (js : List Item). made js f) (append-nil is) ∙ h
-made_still is (i ∷ more) f kind h =
-    ap (λ (js : List Item). made js f) (sym (append_assoc is (i ∷ []) more))
-    ∙ made_still (is ++ i ∷ []) more f kind (made_one is i f kind h)
 
 pub made_pushed : (i : Option Item) (is : List Item) → StaysMade is (pushed i is)
 made_pushed None is f kind h = h

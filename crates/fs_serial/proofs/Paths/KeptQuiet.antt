@@ -23,7 +23,8 @@ use Rattle.fs_serial.specs.Runs.{records_in}
 use Rattle.fs_serial.specs.Words.{key_of, telling_of, told_in}
 use Rattle.fs_serial.proofs.Moves.Parcels.{parcels-append}
 use Rattle.fs_serial.proofs.Paths.KeptAfter.{IsTold, WaitsFor, kept_after, tells_still}
-use Rattle.fs_serial.proofs.Paths.KeptPlaces.{left_alike, made_still}
+use Rattle.fs_serial.proofs.Lists.Journals.{made_kept}
+use Rattle.fs_serial.proofs.Paths.KeptPlaces.{left_alike}
 use Rattle.fs_serial.proofs.Replies.Knowing.{In-filter_map, from-filter_map}
 use Rattle.fs_serial.proofs.Returns.Lapsing.{same_records}
 use Rattle.fs_serial.proofs.Transactions.Desks.{telling_append}
@@ -83,7 +84,7 @@ module _ (k : ℕ) (c : Cluster) (s : Server) (at : slice_get c.servers k ≡ So
             | inr none ↦ inr (λ place effects told. none place effects (told_before q.tells (key_of y.txn y.number) place effects told))
           ];
       told = tells_still c then f q.led (told_before q.tells)
-          (λ d i. left_alike (records_in c) (records_in then) d.effect records_then) (made_still c.journal x.out.admitted);
+          (λ d i. left_alike (records_in c) (records_in then) d.effect records_then) (made_kept c.journal x.out.admitted);
       clients = led_still;
       modes = q.modes;
     })

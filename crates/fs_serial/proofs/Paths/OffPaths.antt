@@ -1,10 +1,9 @@
 -- A server that leaves what it has of paths as it is and tells other servers nothing leaves paths alone, where each directory that was made
 -- stays where it is.
-use Rattle.std.proofs.Common.{◌≡◌, ◌∙◌, ℕ, true, List, [], ◌∷◌, ◌++◌, append-nil, append_assoc, refl, sym, ap, ap₂, subst, inl}
+use Rattle.std.proofs.Common.{◌≡◌, ◌∙◌, ℕ, true, List, [], ◌++◌, append-nil, refl, ap, ap₂, subst, inl}
 use Rattle.std.specs.Prelude.{Some, is_some, slice_get}
 use Rattle.std.specs.List.{filter}
 use Rattle.fs_ident.specs.In.{In}
-use Rattle.fs_ident.specs.declared.kind.Kind.{Kind}
 use Rattle.fs_ident.specs.declared.kind.Kind.TheVariants.{Dir}
 use Rattle.fs_ident.proofs.Standing.{In-got}
 use Rattle.fs_msg.specs.declared.item.Item.{Item}
@@ -13,21 +12,13 @@ use Rattle.fs_server.specs.Server.{Stepped}
 use Rattle.fs_server.specs.declared.event.ServerEvent.{ServerEvent}
 use Rattle.fs_server.specs.declared.state.Server.{Server}
 use Rattle.fs_serial.specs.Cluster.{Cluster, InFlight, after_step, in_flight_from, parcels_of, without_arrived}
-use Rattle.fs_serial.specs.Fresh.{made, made_by, or_else}
+use Rattle.fs_serial.specs.Fresh.{made}
 use Rattle.fs_serial.specs.Joined.{effects_on_way}
 use Rattle.fs_serial.specs.Paths.{IsOnPath, LeavesPaths, PathsHold, has_path}
-use Rattle.fs_serial.proofs.Lists.Journals.{made-append}
+use Rattle.fs_serial.proofs.Lists.Journals.{made_kept}
 use Rattle.fs_serial.proofs.Paths.FilesStay.{SameOnWay, StaysThere, at_itself, at_then, file_stays}
 
 -- ## What was made stays made
-
-pub made_one : (is : List Item) (i : Item) (f : List ℕ) (kind : Kind) → made is f ≡ Some kind → made (is ++ i ∷ []) f ≡ Some kind
-made_one is i f kind e = made-append is i f ∙ ap (λ o. or_else o (made_by i.op i.reply f)) e
-
-pub made_kept : (is more : List Item) (f : List ℕ) (kind : Kind) → made is f ≡ Some kind → made (is ++ more) f ≡ Some kind
-made_kept is [] f kind e = ap (λ js. made js f) (append-nil is) ∙ e
-made_kept is (i ∷ more) f kind e =
-    ap (λ js. made js f) (sym (append_assoc is (i ∷ []) more)) ∙ made_kept (is ++ i ∷ []) more f kind (made_one is i f kind e)
 
 -- what is on a path was made a directory
 pub made_on_path : (c : Cluster) (f : List ℕ) → PathsHold c → IsOnPath c.servers f → made c.journal f ≡ Some Dir

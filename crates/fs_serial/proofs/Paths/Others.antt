@@ -1,28 +1,27 @@
 -- Every other kind of step leaves all leases true.
 use Rattle.std.proofs.Common.{◌≡◌, ◌∙◌, ℕ, List, true, false, sym, subst, inl, inr}
 use Rattle.std.specs.Prelude.{◌⊎◌, None, Some, slice_get}
-use Rattle.std.specs.List.{find}
 use Rattle.fs_ident.specs.Ident.{same}
 use Rattle.fs_ident.specs.In.{In}
 use Rattle.fs_ident.proofs.Same.{same_self}
-use Rattle.fs_ident.proofs.Standing.{In-got, none_pass}
+use Rattle.fs_ident.proofs.Standing.{In-got}
 use Rattle.fs_moderows.proofs.Witnesses.{In_any}
 use Rattle.fs_path.specs.Leases.{PathLease, goes_over}
 use Rattle.fs_path.specs.Tables.{through}
+use Rattle.fs_path.proofs.LeaseLaws.{none_through}
 use Rattle.fs_server.specs.Server.{Stepped}
 use Rattle.fs_server.specs.declared.event.ServerEvent.{ServerEvent}
 use Rattle.fs_server.specs.declared.state.Server.{Server}
 use Rattle.fs_serial.specs.Cluster.{Cluster, after_step}
 use Rattle.fs_serial.specs.Paths.{IsTruePath, LeavesPaths, PathsHold, is_kept}
 use Rattle.fs_serial.specs.Runs.{held_by}
-use Rattle.fs_serial.proofs.Lists.Journals.{none_mapped}
 use Rattle.fs_serial.proofs.Paths.Alike.{all_true, held_still, on_path, true_alike}
 
 -- where no path that was given out goes over the file, it is on none
 off_path : (s : Server) (f : List ℕ) (l : PathLease) → through f s.paths.issued ≡ None → In l s.paths.issued → In f l.path → ⊥
 off_path s f l none i m =
     let over : goes_over f l ≡ true = In_any (λ g. same g f) l.path f m (same_self f) in
-    let none_over = none_pass (goes_over f) s.paths.issued (none_mapped (λ (x : PathLease). x.no) (find (goes_over f) s.paths.issued) none) l i in
+    let none_over = none_through f s.paths.issued none l i in
     let wrong : true ≡ false = sym over ∙ none_over in
     absurd (cc wrong)
 

@@ -1,12 +1,9 @@
 -- Path leases that go back to their servers, and those that are left.
-use Rattle.std.proofs.Common.{◌≡◌, ◌+◌, ℕ, Bool, not, List, [], ◌∷◌, ◌++◌, map, refl, ap, sym, ◌∙◌, subst, inl, inr, arith}
+use Rattle.std.proofs.Common.{◌≡◌, ◌+◌, ℕ, Bool, not, List, [], ◌∷◌, map, refl, ap, sym, ◌∙◌, subst, inl, inr, arith}
 use Rattle.std.specs.List.{filter}
 use Rattle.fs_ident.specs.In.{In}
 use Rattle.fs_ident.specs.declared.actor.PathNo.{PathNo}
-use Rattle.fs_ident.specs.declared.actor.Peer.{Peer}
-use Rattle.fs_ident.specs.declared.actor.Peer.TheVariants.{Client as OfSession, Server as OfServer}
 use Rattle.fs_ident.proofs.Standing.{In-filter, In-map}
-use Rattle.fs_msg.specs.declared.msg.Msg.{Msg}
 use Rattle.fs_msg.specs.declared.msg.Msg.TheVariants as msg
 use Rattle.fs_msg.specs.declared.peer_msg.PeerMsg.TheVariants.{PathRelease}
 use Rattle.fs_path.specs.Leases.{PathLease, named_to_peer}
@@ -31,14 +28,6 @@ each_back n k (h ∷ hs) = ap (λ w. one_if (is_of n h) + w) (each_back n k hs)
 pub recalls_bring_none : (n : PathNo) (k : ℕ) (xs : List (ℕ × PathNo)) → on_way n (in_flight_from k (path_recalls xs)) ≡ 0
 recalls_bring_none n k [] = refl
 recalls_bring_none n k (x ∷ xs) = let rest = recalls_bring_none n k xs in omega (arith, rest)
-
-pub flight_append : (k : ℕ) (xs ys : List (Peer × Msg)) → in_flight_from k (xs ++ ys) ≡ in_flight_from k xs ++ in_flight_from k ys
-flight_append k [] ys = refl
-flight_append k ((OfServer to, msg.Peer m) ∷ xs) ys =
-    ap (λ fs. (let f : InFlight = record { from = k; to = to; message = m } in f) ∷ fs) (flight_append k xs ys)
-flight_append k ((OfServer to, msg.Client m) ∷ xs) ys = flight_append k xs ys
-flight_append k ((OfServer to, msg.Answer m) ∷ xs) ys = flight_append k xs ys
-flight_append k ((OfSession to, m) ∷ xs) ys = flight_append k xs ys
 
 -- ## What they say
 

@@ -39,23 +39,22 @@ use Rattle.fs_txn.proofs.Keys.{kept_in}
 use Rattle.fs_view.specs.Gone.{known_with}
 use Rattle.fs_view.specs.Walk.{Known, always}
 use Rattle.fs_serial.specs.Cluster.{Cluster}
-use Rattle.fs_serial.specs.Commits.{IsCommitted}
 use Rattle.fs_serial.specs.KeptFiles.{FilesKept}
 use Rattle.fs_serial.specs.Leading.{IsLeading}
-use Rattle.fs_serial.specs.Owed.{ends_in}
 use Rattle.fs_serial.specs.PathLaws.{IsKeptThere, KeptAtSource}
 use Rattle.fs_serial.specs.Pending as pending
 use Rattle.fs_serial.specs.Seen.{ClusterHolds, world_of}
 use Rattle.fs_serial.specs.Sight.{Sight}
 use Rattle.fs_serial.specs.Words.{key_of, said_at}
-use Rattle.fs_serial.specs.World.{settled_at, sight_in}
+use Rattle.fs_serial.specs.World.{sight_in}
 use Rattle.fs_serial.proofs.DecidedEffects.HeldSeen.{held_same, held_seen}
 use Rattle.fs_serial.proofs.DecidedEffects.ToldParts.{HasReady}
 use Rattle.fs_serial.proofs.Lists.ByPlace.{map_at, of_map}
 use Rattle.fs_serial.proofs.Lists.Servers.{In_at}
+use Rattle.fs_serial.proofs.LedOperations.Committing.{IsNamed}
 use Rattle.fs_serial.proofs.Paths.OnTheWay.{dir_in, kept_among}
 use Rattle.fs_serial.proofs.Paths.SourceParts.{all_yes, asks_source, in_source, source_among, source_keeps}
-use Rattle.fs_serial.proofs.Transactions.FullCommits.{full_commits}
+use Rattle.fs_serial.proofs.Transactions.FullCommits.{full_named}
 use Rattle.fs_serial.proofs.Transactions.HomeVotes.{lives_here}
 use Rattle.fs_serial.proofs.Transactions.OwnersOfLocks.{in_range}
 use Rattle.fs_serial.proofs.Transactions.Tables.{In_all}
@@ -93,8 +92,8 @@ module _ (skew greatest : ℕ) (c : Cluster) (h : ClusterHolds skew greatest c) 
   abbrev known : Known
   known = known_with (value_of now.records by)
 
-  commits : IsCommitted now by (settled_at by (ends_in c by)) d.entry d.file
-  commits = full_commits k skew greatest c s at h l j none
+  named : IsNamed now by d.entry d.file
+  named = full_named k skew greatest c s at h l j none
 
   module _ (n : ℕ) (p : Part) (part : slice_get l.leader.parts n ≡ Some p) where
     abbrev wanted : Wanted
@@ -163,7 +162,7 @@ module _ (skew greatest : ℕ) (c : Cluster) (h : ClusterHolds skew greatest c) 
       source_mine : is_mine t (source_of d.entry.op) ≡ true
       source_mine =
           let u : pending.HasUse d.entry.uses (Life (source_of d.entry.op)) Shared =
-          commits.covered (need.Lease (Life (source_of d.entry.op)) Shared) (asks_source known always d.entry.op commits.moves) in
+          named.covered (need.Lease (Life (source_of d.entry.op)) Shared) (asks_source known always d.entry.op named.moves) in
           let on : same (file_of u.used.field) (source_of d.entry.op) ≡ true =
           ap (λ f. same (file_of f) (source_of d.entry.op)) u.field ∙ same_self (source_of d.entry.op) in
           let among : In u.used p.uses = subst (In u.used) (sym uses_are)
@@ -175,7 +174,7 @@ module _ (skew greatest : ℕ) (c : Cluster) (h : ClusterHolds skew greatest c) 
         source_kept =
             let held : RecordMap = held_seen c in
             let tree : IsTree (nodes_of held) = (h.parts s here).0.all.kept.sound.space.tree in
-            let q = in_source (nodes_of held) d.entry.op d.file commits.moves commits.named in
+            let q = in_source (nodes_of held) d.entry.op d.file named.moves named.named in
             let place : parent_of (get (nodes_of held) d.file) ≡ Some (source_of d.entry.op, q.0) =
             (tree.agreeing (source_of d.entry.op) q.0 d.file).0 q.1 in
             let lives : kind_of (get (nodes_of held) (source_of d.entry.op)) ≡ Some Dir =

@@ -5,6 +5,7 @@ use Rattle.std.specs.Prelude.{Option, Some, None, is_some}
 use Rattle.fs_ident.specs.In.{In}
 use Rattle.fs_ident.specs.declared.actor.Peer.TheVariants.{Client as OfSession}
 use Rattle.fs_ident.specs.declared.actor.Session.{Session}
+use Rattle.fs_ident.specs.declared.kind.Kind.TheVariants.{Dir}
 use Rattle.fs_ident.specs.declared.kind.Kind.{Kind}
 use Rattle.fs_field.specs.declared.used.Use.{Use}
 use Rattle.fs_model.specs.Namespace.{NodeMap, first_space}
@@ -41,9 +42,9 @@ use Rattle.fs_serial.specs.Sight.{Sight}
 use Rattle.fs_serial.specs.Steps.{IsReplied, IsReadNow}
 use Rattle.fs_serial.proofs.Admission.Answered.{answered, no_reap}
 use Rattle.fs_serial.proofs.ClientMessages.Carried.{GoesOnAs, exchange_still}
-use Rattle.fs_serial.proofs.Lists.Journals.{items-own, made-append, made_before, or_none, serial_push, session_itself}
+use Rattle.fs_serial.proofs.Lists.Journals.{items-own, made-append, made_before, made_one, or_none, serial_push, session_itself}
 use Rattle.fs_serial.proofs.Replies.Knowing.{IsUseOf, use_from}
-use Rattle.fs_serial.proofs.OtherSessions.Gone.{lost_in, lost_unread, made_more, telling_later}
+use Rattle.fs_serial.proofs.OtherSessions.Gone.{lost_in, lost_unread, made_more, telling_later, tells_later}
 use Rattle.fs_serial.proofs.LedOperations.LedKept.{none_led}
 use Rattle.fs_serial.proofs.Admission.Births.{named_makes}
 use Rattle.fs_serial.proofs.Replies.Reply.{IsNext, IsOfLease, number_more, value_seen}
@@ -199,6 +200,7 @@ module _ (skew greatest : ℕ) (s : Sight) (by : Session) (replied : List Item) 
       distinct = h.fits.distinct;
       matching = h.fits.matching;
       fresh = h.fits.fresh;
+      lives = λ l at file on. tells_later s.journal later.journal file l.base (made_one s.journal i file Dir) (h.fits.lives l at file on);
       held = h.fits.held;
       backed = h.fits.backed;
       entries = h.fits.entries;

@@ -166,6 +166,7 @@ module _ (skew greatest : ℕ) (s : Sight) (by : Session) (replied : List Item) 
     distinct = f.distinct;
     matching = f.matching;
     fresh = f.fresh;
+    lives = f.lives;
     held = held;
     backed = backed;
     entries = each_more IsEntry d.log e f.entries n.entry;

@@ -8,6 +8,7 @@ use mathlib.Core.Path.{fun_ext}
 use Rattle.fs_ident.specs.In.{In}
 use Rattle.fs_ident.specs.Ident.{same}
 use Rattle.fs_ident.specs.declared.actor.Session.{Session}
+use Rattle.fs_ident.specs.declared.kind.Kind.TheVariants.{Dir}
 use Rattle.fs_ident.proofs.Standing.{In-map, none_any}
 use Rattle.fs_ident.proofs.Booleans.{first_fails}
 use Rattle.fs_ident.proofs.Same.{one_session}
@@ -44,7 +45,7 @@ use Rattle.fs_serial.specs.Serial.{AreSound, JournalSerial}
 use Rattle.fs_serial.specs.Settled.{Settled}
 use Rattle.fs_serial.specs.Sight.{Counts, Sight, sight_of}
 use Rattle.fs_serial.proofs.DecidedEffects.FewerDirectories.{MakeNone, fewer_each, fewer_then, reserved_later, reserved_there}
-use Rattle.fs_serial.proofs.Lists.Journals.{items-other, made-append, made_before, serial_push}
+use Rattle.fs_serial.proofs.Lists.Journals.{items-other, made-append, made_before, made_one, serial_push}
 use Rattle.fs_serial.proofs.OtherSessions.Gone.{all_anew, made_more, still_gone}
 use Rattle.fs_serial.proofs.OtherSessions.Relied.{relied_fits, relied_holds}
 use Rattle.fs_serial.proofs.Replies.Reply.{number_more}
@@ -124,6 +125,7 @@ module _ (o : Counts) (skew greatest : ℕ) (s : Server) (journal : List Item) (
     older = λ r i old. record { row = r; stood = i; number = refl; session = refl; field = refl; kind = refl };
     kept = λ r i own live. record { row = r; stands = i; number = refl; lasts = omega arith };
     values = λ r i old own. inr (value_same s.records s.rows file by sf.shaped sh.promises promises gone x r i own);
+    dirs = λ id was. made_one journal item id Dir was;
     made = λ id was. made_more journal item id was;
     gone = λ id was none. still_gone s.records after.records id (kind_same s.records file by id) none;
     items = items-other x journal item refl;

@@ -10,6 +10,7 @@ use Rattle.fs_ident.proofs.Passing.{found}
 use Rattle.fs_ident.proofs.Same.{itself}
 use Rattle.fs_ident.proofs.Standing.{In-got}
 use Rattle.fs_ident.specs.declared.actor.Peer.{Peer}
+use Rattle.fs_field.specs.declared.path.PathAnswer.{PathAnswer}
 use Rattle.fs_field.specs.declared.used.Part.{Part}
 use Rattle.fs_field.specs.declared.vote.Vote.{Vote}
 use Rattle.fs_field.specs.declared.vote.Vote.TheVariants.{Yes, Ended, Moved, PathsOut}
@@ -25,7 +26,7 @@ use Rattle.fs_msg.specs.declared.server_note.ServerNote.{ServerNote}
 use Rattle.fs_msg.specs.declared.voted.Voted.{Voted as VotedMsg}
 use Rattle.fs_record.specs.declared.led_end.LedEnd.{LedEnd}
 use Rattle.fs_record.specs.declared.led_end.LedEnd.TheVariants as led
-use Rattle.fs_server.specs.Concludes.{concludes, end_note, waits, goes_on}
+use Rattle.fs_server.specs.Concludes.{concludes, end_note, goes_on, path_for, waits}
 use Rattle.fs_server.specs.Counts.{after_own_vote, asked_at, comes_home, counts, counts_own, done_of, done_step, done_with, seeks, sent_on, vote_of, vote_step, voted, with_vote}
 use Rattle.fs_server.specs.Follows.{applies, decide_step, prepare_step, recalls_for, vote_here, votes}
 use Rattle.fs_server.specs.Moves.{peer_step}
@@ -175,28 +176,30 @@ pub record IsAwaited (s : Server) (m : VotedMsg) : Type 0 where
 abbrev pub IsKnown : Stepped → Type 0
 IsKnown x = x.out.note ≢ note.Strange
 
-concluded_known : (l : Leading) (sent : List _) (s : Server) → IsKnown (concludes l sent s)
-concluded_known l sent s = of _
+concluded_known : (l : Leading) (path : Option PathAnswer) (sent : List _) (s : Server) → IsKnown (concludes l path sent s)
+concluded_known l path sent s = of _
   where
     of : (e : LedEnd) → end_note l.leader.txn e ≢ note.Strange
     of (led.Done r) e = absurd (cc)
     of (led.Ended n u w) e = absurd (cc)
     of (led.Again w) e = absurd (cc)
 
-pub goes_on_known : (n : ServerNote) (l : Leading) (sent : List (Peer × Msg)) (s : Server) → n ≢ note.Strange → IsKnown (goes_on n l sent s)
-goes_on_known n l sent s known =
-    elim (is_full l.leader.votes) as (λ b. IsKnown (cond b (concludes l sent s) (waits n l sent s))) [
-      | true ↦ concluded_known l sent s
+pub goes_on_known : (n : ServerNote) (l : Leading) (path : Option PathAnswer) (sent : List (Peer × Msg)) (s : Server) → n ≢ note.Strange
+    → IsKnown (goes_on n l path sent s)
+goes_on_known n l path sent s known =
+    elim (is_full l.leader.votes) as (λ b. IsKnown (cond b (concludes l path sent s) (waits n l sent s))) [
+      | true ↦ concluded_known l path sent s
       | false ↦ known
     ]
 
 counted_known : (number : ℕ) (v : Vote) (l : Leading) (s : Server) → IsKnown (counts number v l s)
-counted_known number v l s = goes_on_known (note.Waits l.leader.txn) (with_vote number v l) [] s (λ e. absurd (cc))
+counted_known number v l s =
+    goes_on_known (note.Waits l.leader.txn) (with_vote number v l) (path_for l.leader.mode l.leader.op s) [] s (λ e. absurd (cc))
 
 own_known : (number : ℕ) (p : Part) (v : Vote) (l : Leading) (s : Server) → IsKnown (counts_own number p v l s)
 own_known number p v l s =
-    goes_on_known (note.Waits l.leader.txn) (with_vote number v (asked_at number s.me l)) (recalls_for v s p)
-    (after_own_vote l.leader.txn p v s) (λ e. absurd (cc))
+    goes_on_known (note.Waits l.leader.txn) (with_vote number v (asked_at number s.me l)) (path_for l.leader.mode l.leader.op s)
+    (recalls_for v s p) (after_own_vote l.leader.txn p v s) (λ e. absurd (cc))
 
 home_known : (number : ℕ) (p : Part) (l : Leading) (s : Server) → IsKnown (comes_home number p l s)
 home_known number p l s =

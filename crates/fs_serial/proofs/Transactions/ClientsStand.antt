@@ -193,7 +193,7 @@ module _ (c : Cluster) (by : Session) where
             places = places_later c (pushed p.out.admitted c.journal) (with_told by (told_by by p.ready.change p.out.admitted) c.replied)
                 (with_lines by then c.lines) (λ id. made_later c.journal p.out.admitted id) h.places;
             led = led;
-            pathless = h.pathless;
+            peers = h.peers;
           }
 
 module _ (skew greatest : ℕ) (c : Cluster) (by : Session) (h : ClusterHolds skew greatest c) where

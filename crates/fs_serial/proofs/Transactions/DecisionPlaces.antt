@@ -1,6 +1,6 @@
 -- Everything is at its place after a decision, and after a part carries it out.
-use Rattle.std.proofs.Common.{◌≡◌, ◌<◌, ℕ, Bool, List, [], ◌∷◌, length, refl, subst, inl, inr}
-use Rattle.std.specs.Prelude.{Some, None, slice_get}
+use Rattle.std.proofs.Common.{◌≡◌, ◌<◌, ℕ, Bool, List, [], ◌∷◌, length, refl, ap, ◌∙◌, subst, inl, inr}
+use Rattle.std.specs.Prelude.{Some, slice_get, Option}
 use Rattle.std.specs.List.{filter}
 use Rattle.fs_ident.specs.In.{In}
 use Rattle.fs_ident.specs.declared.actor.Session.{Session}
@@ -23,7 +23,6 @@ use Rattle.fs_txn.specs.Ready.{is_awaited, without_prepared}
 use Rattle.fs_txn.specs.Stages.{Told, is_between, word_to}
 use Rattle.fs_txn.specs.Stages.Word.{Decide}
 use Rattle.fs_txn.specs.declared.decision.Decision.{Decision}
-use Rattle.fs_txn.specs.declared.decision.Decision.TheVariants.{Abort}
 use Rattle.fs_txn.specs.declared.leading.Leading.{Leading}
 use Rattle.fs_serial.specs.Cluster.{Cluster, InFlight, IsThere, after_step, with_items, without_arrived}
 use Rattle.fs_serial.specs.Cluster as cluster
@@ -34,12 +33,13 @@ use Rattle.fs_serial.specs.Words.{key_of, telling_of, told_with}
 use Rattle.fs_serial.proofs.DecidedEffects.ToldParts.{told_there}
 use Rattle.fs_serial.proofs.Lists.SetAt.{In_without}
 use Rattle.fs_serial.proofs.Places.PutRecords.{AreOn, effects_home}
+use Rattle.fs_serial.proofs.Transactions.Agreements.{TellsNone, none_told}
 use Rattle.fs_serial.proofs.Transactions.AwaitedWords.{decide_here}
 use Rattle.fs_serial.proofs.Transactions.Desks.{heard}
 use Rattle.fs_serial.proofs.Transactions.PlacesAfter.{AreWords, StaysHome, answer_words, both_words, no_words, one_word}
 use Rattle.fs_serial.proofs.Transactions.PlacesAfter.{places_stepped, unlocked_unless, word_taken}
-use Rattle.fs_serial.proofs.Transactions.Tables.{In_some}
 use Rattle.fs_serial.proofs.Transactions.YesElsewhere.{yes_elsewhere}
+use Rattle.fs_field.specs.declared.path.PathAnswer.{PathAnswer}
 
 -- ## What is told
 
@@ -57,11 +57,8 @@ now_words servers [] by e = answer_words servers by (answer.Led e)
 now_words servers (x ∷ xs) by e = no_words servers
 
 -- where nothing is carried out nothing is of this server
-abort_on : (mine : List ℕ → Bool) (me : ℕ) (l : Leading) (d : Decision) (e : LedEnd) → d ≡ Abort e → AreOn mine (own_effects me l d)
-abort_on mine me l d e is x i =
-    let q = In_some (λ (n : ℕ × ℕ). told_effects (Abort e) n.0) x (own_parts me l)
-    (subst (λ z. In x (own_effects me l z)) is i) in
-    absurd q.1.1
+none_on : (mine : List ℕ → Bool) (me : ℕ) (l : Leading) (d e : Decision) → d ≡ e → TellsNone e → AreOn mine (own_effects me l d)
+none_on mine me l d e is none x i = absurd (subst (In x) (ap (own_effects me l) is ∙ none_told e none (own_parts me l)) i)
 
 module _ (k : ℕ) (c : Cluster) (s : Server) (at : slice_get c.servers k ≡ Some s) (h : PlacesHold c) (led : LedHolds c) where
   s_in : In s c.servers
@@ -109,28 +106,29 @@ module _ (k : ℕ) (c : Cluster) (s : Server) (at : slice_get c.servers k ≡ So
       (word_taken (cluster.is_between from k) c.in_flight f comes refl) (λ z j. In_without (cluster.is_between from k) c.in_flight z j)
       (one_word (length c.servers) from word (record { there = (h.goes f i).from; names = tt; word = refl }))
 
-  concluded_home : (l : Leading) → AreOn (is_mine s) (own_effects s.me l (decision l.leader None))
-      → StaysHome s (concludes l [] s).server
-  concluded_home l on = record {
+  concluded_home : (l : Leading) (path : Option PathAnswer) → AreOn (is_mine s) (own_effects s.me l (decision l.leader path))
+      → StaysHome s (concludes l path [] s).server
+  concluded_home l path on = record {
     me = refl;
     owners = refl;
-    rows = unlocked_unless (keeps_for (decision l.leader None) (elsewhere s.me l)) l.leader.txn s.rows;
-    records = effects_home (is_mine s) s.records (own_effects s.me l (decision l.leader None)) on (h.homes s s_in).records;
+    rows = unlocked_unless (keeps_for (decision l.leader path) (elsewhere s.me l)) l.leader.txn s.rows;
+    records = effects_home (is_mine s) s.records (own_effects s.me l (decision l.leader path)) on (h.homes s s_in).records;
   }
 
-  pub decision_places : (l : Leading) → In l s.leading → AreOn (is_mine s) (own_effects s.me l (decision l.leader None))
-      → PlacesHold (after_concluded k l s c)
-  decision_places l i on =
-      let x : Stepped = concludes l [] s in
-      let d : Decision = decision l.leader None in
+  pub decision_places : (l : Leading) (path : Option PathAnswer) → In l s.leading
+      → AreOn (is_mine s) (own_effects s.me l (decision l.leader path)) → PlacesHold (after_concluded k l path s c)
+  decision_places l path i on =
+      let x : Stepped = concludes l path [] s in
+      let d : Decision = decision l.leader path in
       let out = elsewhere s.me l in
       let by = l.leader.session in
-      places_stepped k c s x.server at h (concluded_home l on) c.in_flight x.out.send x.out.admitted
+      places_stepped k c s x.server at h (concluded_home l path on) c.in_flight x.out.send x.out.admitted
       (with_items x.out.admitted c.replied) (cluster.with_sent k x.out.send c.lines) refl (λ z j. j)
       (both_words (length c.servers) (tells l.leader.txn d out) (ends_now out by (end_of_decision d))
       (tells_words (length c.servers) l.leader.txn d out (λ n j. (yes_elsewhere k c s at (h.numbered k s at) led l i n j).there))
       (now_words (length c.servers) out by (end_of_decision d)))
 
-  pub abort_places : (l : Leading) → In l s.leading → (e : LedEnd) → decision l.leader None ≡ Abort e
-      → PlacesHold (after_concluded k l s c)
-  abort_places l i e is = decision_places l i (abort_on (is_mine s) s.me l (decision l.leader None) e is)
+  -- a decision that tells nothing
+  pub unapplied_places : (l : Leading) (path : Option PathAnswer) → In l s.leading → (d : Decision) → decision l.leader path ≡ d → TellsNone d
+      → PlacesHold (after_concluded k l path s c)
+  unapplied_places l path i d is none = decision_places l path i (none_on (is_mine s) s.me l (decision l.leader path) d is none)

@@ -1,5 +1,5 @@
 -- At the start no server leads anything, no word is on its way, and all that holds of a cluster holds.
-use Rattle.std.proofs.Common.{◌≡◌, ◌≤◌, ◌++◌, ℕ, zero, suc, List, [], refl, sym, ap, ap₂, subst, arith}
+use Rattle.std.proofs.Common.{◌≡◌, ◌≤◌, ◌++◌, ℕ, zero, suc, List, [], length, refl, sym, ap, ap₂, subst, arith}
 use Rattle.std.specs.Prelude.{Option, Some, None, option_map, slice_get}
 use Rattle.std.specs.List.{find}
 use Rattle.fs_ident.specs.In.{In}
@@ -19,7 +19,7 @@ use Rattle.fs_serial.specs.Cluster.{Cluster, first_cluster}
 use Rattle.fs_serial.specs.Decided.{WorldStands}
 use Rattle.fs_serial.specs.Leading.{LedHolds}
 use Rattle.fs_serial.specs.Owed.{ends_in, ends_of, owed_at, taken_at}
-use Rattle.fs_serial.specs.Seen.{ClusterHolds, HasNoPaths, world_of}
+use Rattle.fs_serial.specs.Seen.{ClusterHolds, HasPeers, world_of}
 use Rattle.fs_serial.specs.Words.{ended_in, ending_at, kept_at, leading_at, led_in, prepared_in, ready_at, said_at, stage_of_key, wanted_of}
 use Rattle.fs_serial.specs.World.{Ends, WorldHolds}
 use Rattle.fs_serial.proofs.DecidedEffects.Owing.{none_fits}
@@ -117,7 +117,7 @@ module _ (n skew term greatest : ℕ) where
     addressed = λ x. record { up = λ m i. absurd i; down = λ m i d. absurd i };
     places = first_places n skew term greatest;
     led = first_led;
-    pathless = each n skew term greatest HasNoPaths (λ k. (refl, refl));
+    peers = each n skew term greatest (λ s. HasPeers (length c.servers) s.paths) (λ k. (λ l i. absurd i, λ h i. absurd i));
   }
 
 pub first_stands : (servers skew term greatest : ℕ) → 1 ≤ servers → ClusterHolds skew greatest (first_cluster servers skew term)

@@ -32,14 +32,15 @@ use Rattle.fs_client.specs.Led.{is_led, lead_of}
 use Rattle.fs_client.specs.declared.led.Led.{Led as TheLed}
 use Rattle.fs_server.specs.Begins.{Round, first_round, leader_with, part_round, parts_in, round_of, rounds, txn_of}
 use Rattle.fs_server.specs.Follows.{vote_here}
-use Rattle.fs_server.specs.Leads.{lead_refusal, stands_on_path, wants_path}
+use Rattle.fs_server.specs.Leads.{mode_of, stands_on_path, takes_path}
+use Rattle.fs_server.specs.Laws.{BeginsIn, over, without_path}
 use Rattle.fs_server.specs.Server.{is_mine}
 use Rattle.fs_server.specs.declared.event.ServerEvent.TheVariants.{FromClient}
 use Rattle.fs_server.specs.declared.state.Server.{Server}
-use Rattle.fs_server.proofs.Leading.{none_refuses}
 use Rattle.fs_txn.specs.Grants.{effects_in}
 use Rattle.fs_txn.specs.Parts.{part_at}
 use Rattle.fs_txn.specs.declared.mode.Mode2.{Mode2}
+use Rattle.fs_txn.specs.Deciding.{needs_path}
 use Rattle.fs_serial.specs.Cluster.{Cluster, IsThere, parcels_of}
 use Rattle.fs_serial.specs.Joined.{records_of_all}
 use Rattle.fs_serial.specs.Led.{LedStands}
@@ -61,6 +62,7 @@ use Rattle.fs_serial.proofs.Transactions.PartsApart.{first_part}
 use Rattle.fs_serial.proofs.Transactions.RoundsLocks.{round_by}
 use Rattle.fs_serial.proofs.Transactions.Undecided.{asked_as, stands, up_asked}
 use Rattle.fs_serial.proofs.Transactions.YesesStand.{stand_in}
+use Rattle.fs_serial.proofs.Transactions.Agreements.{over_comes}
 
 pub home_part : (mode : Mode2) (m : ToLead) (p : Part) → slice_get (parts_in mode m) 0 ≡ Some p
     → part_at mode m.op m.file m.uses (home_of m.op) ≡ p
@@ -176,42 +178,42 @@ module _ (k skew greatest : ℕ) (c : Cluster) (s : Server) (at : slice_get c.se
     over_dirs o r l paths lives = absurd (cc)
 
     -- where it stands on no path
-    module _ (free : wants_path s m.op m.kind ≡ false) where
-      by_kind : (kind : Kind) → d.kind ≡ kind → wants_path s d.entry.op kind ≡ false
+    module _ (free : takes_path s m.op m.kind ≡ false) where
+      by_kind : (kind : Kind) → d.kind ≡ kind → takes_path s d.entry.op kind ≡ false
           → (d.kind ≡ File) ⊎ (StaysIn d.entry.op ⊎ (vote_here s by p ≡ Yes → ⊥))
-      by_kind File e over = inl e
-      by_kind Dir e over = inr (over_dirs d.entry.op d.entry.reply led_stands.leads over
+      by_kind File e off = inl e
+      by_kind Dir e off = inr (over_dirs d.entry.op d.entry.reply led_stands.leads off
           (λ said. ap (λ f. is_some (get s.records f)) its_home ∙ home_lives said))
 
       pub votes_over_paths : (d.kind ≡ File) ⊎ (StaysIn m.op ⊎ (vote_here s by p ≡ Yes → ⊥))
       votes_over_paths =
           subst (λ (x : ToLead). (d.kind ≡ File) ⊎ (StaysIn x.op ⊎ (vote_here s by p ≡ Yes → ⊥))) (sym asked)
-          (by_kind d.kind refl (ap (λ (x : ToLead). wants_path s x.op x.kind) (sym asked) ∙ free))
+          (by_kind d.kind refl (ap (λ (x : ToLead). takes_path s x.op x.kind) (sym asked) ∙ free))
 
 -- ## Its votes, as it begins
 
-pub home_votes : (mode : Mode2) (k skew greatest : ℕ) (c : Cluster) (s : Server) → slice_get c.servers k ≡ Some s → ClusterHolds skew greatest c
-    → (by : Session) (m : ToLead) (d : TheLed) (p : Part) → IsThere k (FromClient by (Lead m)) c → (c.lines by).client.led ≡ Some d
-    → slice_get (parts_in mode m) 0 ≡ Some p → lead_refusal s m ≡ None
-    → (d.kind ≡ File) ⊎ (StaysIn m.op ⊎ (vote_here s by p ≡ Yes → ⊥))
-home_votes mode k skew greatest c s at h by m d p there led first accepted =
-    votes_over_paths k skew greatest c s at h mode by m d p there led first (none_refuses s m accepted).1
+module _ (k skew greatest : ℕ) (c : Cluster) (s : Server) (at : slice_get c.servers k ≡ Some s) (h : ClusterHolds skew greatest c)
+    (by : Session) (m : ToLead) (d : TheLed) (there : IsThere k (FromClient by (Lead m)) c) (led : (c.lines by).client.led ≡ Some d) where
+  abbrev Plainly : Mode2 → Type 0
+  Plainly mode = IsPlain d (leader_with mode (txn_of s) by m (round_of mode by m s).votes)
 
-pub begun_plain : (mode : Mode2) (k skew greatest : ℕ) (c : Cluster) (s : Server) → slice_get c.servers k ≡ Some s → ClusterHolds skew greatest c
-    → (by : Session) (m : ToLead) (d : TheLed) → IsThere k (FromClient by (Lead m)) c → (c.lines by).client.led ≡ Some d
-    → lead_refusal s m ≡ None → IsPlain d (leader_with mode (txn_of s) by m (round_of mode by m s).votes)
-begun_plain mode k skew greatest c s at h by m d there led accepted =
-    let p : Part = part_at mode m.op m.file m.uses (home_of m.op) in
-    let votes = (round_of mode by m s).votes in
-    let first : slice_get votes 0 ≡ Some (Some (vote_here s by p)) =
-    home_vote (txn_of s) 0 by (parts_in mode m) (first_round s) p (first_part mode m) refl (none_refuses s m accepted).0 in
-    elim (home_votes mode k skew greatest c s at h by m d p there led (first_part mode m) accepted) as
-    (λ _. IsPlain d (leader_with mode (txn_of s) by m votes)) [
-      | inl e ↦ inl e
-      | inr q ↦ elim q as (λ _. IsPlain d (leader_with mode (txn_of s) by m votes)) [
-        | inl t ↦ inr (inl t)
-        | inr against ↦ inr (inr (λ said.
-            let same : Some (Some (vote_here s by p)) ≡ Some (Some Yes) = sym first ∙ said in
-            against (cc)))
+  off_paths : (mode : Mode2) → is_mine s (home_of m.op) ≡ true → takes_path s m.op m.kind ≡ false → Plainly mode
+  off_paths mode mine free =
+      let p : Part = part_at mode m.op m.file m.uses (home_of m.op) in
+      let votes = (round_of mode by m s).votes in
+      let first : slice_get votes 0 ≡ Some (Some (vote_here s by p)) =
+      home_vote (txn_of s) 0 by (parts_in mode m) (first_round s) p (first_part mode m) refl mine in
+      elim (votes_over_paths k skew greatest c s at h mode by m d p there led (first_part mode m) free) as (λ _. Plainly mode) [
+        | inl e ↦ inl e
+        | inr q ↦ elim q as (λ _. Plainly mode) [
+          | inl t ↦ inr (inl t)
+          | inr against ↦ inr (inr (λ said.
+              let same : Some (Some (vote_here s by p)) ≡ Some (Some Yes) = sym first ∙ said in
+              against (cc)))
+        ]
       ]
-    ]
+
+  pub begun_plain : (mode : Mode2) → BeginsIn m s mode → needs_path mode m.op ≡ false → Plainly mode
+  begun_plain mode (without_path mine free) n = off_paths (mode_of m.op m.kind) mine free
+  begun_plain mode (over files p) n =
+      let wrong : true ≡ false = sym (over_comes m s files p).0 ∙ n in absurd (cc wrong)

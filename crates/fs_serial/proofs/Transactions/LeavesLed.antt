@@ -250,7 +250,7 @@ module _ (k : ℕ) (s : Server) (c : Cluster) where
 
   -- ## What is quiet
 
-  quiet_leaves : (e : ServerEvent) (n : ServerNote) (ms : List (Peer × Msg)) (paths : PathTables) (asking : List (List ℕ)) (given : ℕ)
+  pub quiet_leaves : (e : ServerEvent) (n : ServerNote) (ms : List (Peer × Msg)) (paths : PathTables) (asking : List (List ℕ)) (given : ℕ)
       → ArePathSends ms → comes_words k e c ≡ telling_of c.in_flight → LeavesLed k e s (path_stepped n ms paths asking given s) c
   quiet_leaves e n ms paths asking given sent taken = leaves_led k e s (path_stepped n ms paths asking given s) c
       (record { me = refl; txns = omega arith; leading = refl; ending = refl; prepared = refl; locks = locks_itself s.rows })

@@ -23,11 +23,9 @@ use Rattle.fs_client.specs.Led.{lead_of}
 use Rattle.fs_client.specs.declared.led.Led.{Led}
 use Rattle.fs_server.specs.Begins.{Round, first_round, leader_with, parts_in, round_of, txn_of}
 use Rattle.fs_server.specs.Concludes.{waits}
-use Rattle.fs_server.specs.Leads.{lead_refusal}
-use Rattle.fs_server.specs.Server.{Stepped}
+use Rattle.fs_server.specs.Server.{Stepped, is_mine}
 use Rattle.fs_server.specs.declared.event.ServerEvent.TheVariants.{FromClient}
 use Rattle.fs_server.specs.declared.state.Server.{Server}
-use Rattle.fs_server.proofs.Leading.{none_refuses}
 use Rattle.fs_model.specs.Asking.{home_of}
 use Rattle.fs_txn.specs.Deciding.{needs_path}
 use Rattle.fs_txn.specs.Leading.{ending_of, leading_of, said_by, stage_by, stage_in, with_leading}
@@ -44,7 +42,7 @@ use Rattle.fs_txn.specs.declared.ready.Ready.{Ready}
 use Rattle.fs_txn.specs.declared.mode.Mode2.{Mode2}
 use Rattle.fs_txn.proofs.Keys.{txn_is, txn_itself}
 use Rattle.fs_serial.specs.Cluster.{Cluster, Lines, after_step, in_flight_from, is_with, with_sent, without_first, without_question}
-use Rattle.fs_serial.specs.Leading.{IsEnded, IsLeading, IsLedBy, IsPlain, IsToldOf, LedHolds}
+use Rattle.fs_serial.specs.Leading.{IsEnded, IsLeading, IsLedBy, IsMode, IsPlain, IsToldOf, LedHolds}
 use Rattle.fs_serial.specs.Words.{desks_of, kept_at, key_of, said_at, stage_of_key, telling_of}
 use Rattle.fs_serial.proofs.Lists.ByPlace.{not_found}
 use Rattle.fs_serial.proofs.Lists.Servers.{In_at}
@@ -301,7 +299,7 @@ module _ (mode : Mode2) (k : ℕ) (c : Cluster) (s : Server) (at : slice_get c.s
 
     module _ (all_votes : length votes ≡ length (parts_in mode m)) (all_places : length places ≡ length (parts_in mode m))
         (home : slice_get places 0 ≡ Some s.me) (d : Led) (client : IsLedBy c.lines by k d) (asks : m ≡ lead_of d)
-        (plain : IsPlain d l.leader) (stands : needs_path mode m.op ≡ false) where
+        (plain : needs_path mode m.op ≡ false → IsPlain d l.leader) (stands : IsMode mode d.kind m.op) where
       new_leads : IsLeading lines t parts l
       new_leads = record {
         own = refl;
@@ -392,8 +390,8 @@ module _ (mode : Mode2) (k : ℕ) (c : Cluster) (s : Server) (at : slice_get c.s
         | false ↦ λ e. refl
       ] refl
 
-  module _ (d : Led) (client : IsLedBy c.lines by k d) (asks : m ≡ lead_of d) (accepted : lead_refusal s m ≡ None)
-      (plain : IsPlain d begun.leader) (stands : needs_path mode m.op ≡ false) where
+  module _ (d : Led) (client : IsLedBy c.lines by k d) (asks : m ≡ lead_of d) (mine : is_mine s (home_of m.op) ≡ true)
+      (plain : needs_path mode m.op ≡ false → IsPlain d begun.leader) (stands : IsMode mode d.kind m.op) where
     all_places : length round.at ≡ length (parts_in mode m)
     all_places =
         rounds_at txn 0 by (parts_in mode m) (first_round s) ∙ (let n : 0 + length (parts_in mode m) ≡ length (parts_in mode m) = omega arith in n)
@@ -403,8 +401,7 @@ module _ (mode : Mode2) (k : ℕ) (c : Cluster) (s : Server) (at : slice_get c.s
         rounds_votes txn 0 by (parts_in mode m) (first_round s) ∙ (let n : 0 + length (parts_in mode m) ≡ length (parts_in mode m) = omega arith in n)
 
     home : slice_get round.at 0 ≡ Some s.me
-    home = rounds_home txn 0 by (parts_in mode m) (first_round s) (part_at mode m.op m.file m.uses (home_of m.op)) (first_part mode m) refl
-        (none_refuses s m accepted).0
+    home = rounds_home txn 0 by (parts_in mode m) (first_round s) (part_at mode m.op m.file m.uses (home_of m.op)) (first_part mode m) refl mine
 
     undecided : NoDecision k round.send
     undecided = rounds_undecided k txn 0 by (parts_in mode m) (first_round s) (λ o to es i. absurd i)

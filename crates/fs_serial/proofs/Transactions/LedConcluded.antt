@@ -14,6 +14,7 @@ use Rattle.fs_ident.proofs.Same.{itself}
 use Rattle.fs_ident.proofs.Standing.{In-append, In-filter, In-got, In-map, In-mapped, none_pass}
 use Rattle.fs_field.specs.Table.{is_lock_of, same_txn, unlocked_row}
 use Rattle.fs_field.specs.declared.effect.Effect.{Effect}
+use Rattle.fs_field.specs.declared.path.PathAnswer.{PathAnswer}
 use Rattle.fs_field.specs.declared.row.Row.{Row}
 use Rattle.fs_field.specs.declared.vote.Vote.{Vote}
 use Rattle.fs_field.specs.declared.vote.Vote.TheVariants.{Yes, Ended, Moved, PathsOut}
@@ -31,7 +32,7 @@ use Rattle.fs_server.specs.Leads.{is_led}
 use Rattle.fs_server.specs.LeadingLaws.{of_number}
 use Rattle.fs_server.specs.Server.{Stepped}
 use Rattle.fs_server.specs.declared.state.Server.{Server}
-use Rattle.fs_txn.specs.Deciding.{again, agreed, commit, decision, end_of_place, first_end, keeps_rows, needs_path, or_else, reply_of, told_effects, unless_ended}
+use Rattle.fs_txn.specs.Deciding.{agreed, decision, end_of_place, first_end, keeps_rows, or_else, reply_of, told_effects, unless_ended}
 use Rattle.fs_txn.specs.Leading.{awaited_stage, elsewhere, ending_of, keeps_till_done, leading_of, said_by, stage_by, stage_in, yes_parts}
 use Rattle.fs_txn.specs.Locks.{Agreed, Kept, LocksHold, rows_unlocked, without_kept, without_txn}
 use Rattle.fs_txn.specs.Ready.{agreed_of, is_part}
@@ -51,8 +52,9 @@ use Rattle.fs_txn.proofs.Locked.{commit_keeps, last_keeps}
 use Rattle.fs_txn.proofs.Telling.{drops, tells}
 use Rattle.fs_serial.specs.Cluster.{Cluster}
 use Rattle.fs_serial.specs.Conclusions.{after_concluded}
-use Rattle.fs_serial.specs.Leading.{IsEnded, IsLeading, IsLedBy, IsToldOf, LedHolds}
+use Rattle.fs_serial.specs.Leading.{IsEnded, IsLeaderOf, IsLeading, IsLedBy, IsToldOf, LedHolds}
 use Rattle.fs_serial.specs.Words.{desks_of, ended_in, ending_at, kept_at, key_of, leading_at, prepared_in, ready_at, said_at, stage_of_key, telling_of, wanted_of}
+use Rattle.fs_serial.proofs.Transactions.Agreements.{Agrees, agrees, can_cycle, carried, cycled, needs_comes, put_off}
 use Rattle.fs_serial.proofs.Transactions.Decisions.{IsTold, awaited_first, decision_word, decision_words, first_awaited, is_told, none_of_words, words_of, yes_said}
 use Rattle.fs_serial.proofs.Transactions.Decisions.IsTold.{told, untold}
 use Rattle.fs_serial.proofs.Transactions.Desks.{FilesApart, each_after, ended_then, files_still, is_at, leading_then, not_at_home, prepared_set, same_at, telling_append, told_then, was_at}
@@ -87,18 +89,18 @@ can_end (op.Delete dir name) h = refl
 can_end (op.Rename sdir sname ddir dname) h = refl
 can_end o h = absurd (cc h)
 
-agreed_fits : (l : Leader) (d : Led) → l.op ≡ d.entry.op → is_led l.op ≡ true → end_fits (Some d) (end_of_decision (agreed l None)) ≡ true
-agreed_fits l d same h = elim (needs_path l.mode l.op) as
-    (λ b. end_fits (Some d) (end_of_decision (cond b (again why.Changed) (commit l (reply_of l.op)))) ≡ true) [
-      | true ↦ refl
-      | false ↦ ap (λ o. can_end_with o (reply_of l.op)) (sym same) ∙ can_end l.op h
-    ]
+agreed_fits : (l : Leader) (d : Led) → IsLeaderOf l d → is_led l.op ≡ true → (path : Option PathAnswer) (x : Decision) → Agrees l path x
+    → end_fits (Some d) (end_of_decision x) ≡ true
+agreed_fits l d its h path x (carried off) = ap (λ o. can_end_with o (reply_of l.op)) (sym its.op) ∙ can_end l.op h
+agreed_fits l d its h path x (cycled n on) =
+    ap (λ o. can_end_with o reply.Cycle) (sym its.op) ∙ can_cycle d.kind l.op (needs_comes l.mode d.kind l.op its.mode n)
+agreed_fits l d its h path x (put_off w) = refl
 
-decision_fits : (l : Leader) (d : Led) → l.op ≡ d.entry.op → is_led l.op ≡ true
-    → end_fits (Some d) (end_of_decision (decision l None)) ≡ true
-decision_fits l d same h = elim (first_end l.votes) as
-    (λ o. first_end l.votes ≡ o → end_fits (Some d) (end_of_decision (unless_ended o (agreed l None))) ≡ true) [
-      | None ↦ λ e. agreed_fits l d same h
+decision_fits : (l : Leader) (d : Led) → IsLeaderOf l d → is_led l.op ≡ true → (path : Option PathAnswer)
+    → end_fits (Some d) (end_of_decision (decision l path)) ≡ true
+decision_fits l d its h path = elim (first_end l.votes) as
+    (λ o. first_end l.votes ≡ o → end_fits (Some d) (end_of_decision (unless_ended o (agreed l path))) ≡ true) [
+      | None ↦ λ e. agreed_fits l d its h path (agreed l path) (agrees l d.kind path its.mode)
       | Some f ↦ λ e. first_fits d l.votes f e
     ] refl
 
@@ -122,7 +124,7 @@ was_counted (Some p) (Some None) n = absurd (n refl)
 was_counted (Some p) (Some (Some v)) n = counted p v refl refl refl
 
 module _ (k : ℕ) (c : Cluster) (s : Server) (at : slice_get c.servers k ≡ Some s) (held : LedHolds c) (me : s.me ≡ k) (l : Leading)
-    (led : leading_of l.leader.txn s.leading ≡ Some l) (full : is_full l.leader.votes ≡ true) where
+    (path : Option PathAnswer) (led : leading_of l.leader.txn s.leading ≡ Some l) (full : is_full l.leader.votes ≡ true) where
   abbrev t : TxnNo
   t = l.leader.txn
 
@@ -130,19 +132,19 @@ module _ (k : ℕ) (c : Cluster) (s : Server) (at : slice_get c.servers k ≡ So
   by = l.leader.session
 
   abbrev d : Decision
-  d = decision l.leader None
+  d = decision l.leader path
 
   abbrev out : List (ℕ × ℕ)
   out = elsewhere s.me l
 
   abbrev x : Stepped
-  x = concludes l [] s
+  x = concludes l path [] s
 
   abbrev y : Server
   y = x.server
 
   abbrev after : Cluster
-  after = after_concluded k l s c
+  after = after_concluded k l path s c
 
   abbrev ended : Ending
   ended = record { txn = t; session = by; end = end_of_decision d; awaits = out }
@@ -462,7 +464,7 @@ module _ (k : ℕ) (c : Cluster) (s : Server) (at : slice_get c.servers k ≡ So
         awaited = awaited_out;
         led = leads.led;
         client = leads.client;
-        fits = decision_fits l.leader leads.led leads.leader.op is;
+        fits = decision_fits l.leader leads.led leads.leader is path;
       })
       | inr q ↦
           let z = held.ending s here m q.0 in

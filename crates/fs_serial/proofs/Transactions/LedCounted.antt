@@ -179,7 +179,7 @@ module _ (k from : ℕ) (c : Cluster) (s : Server) (at : slice_get c.servers k �
       led = leads.led;
       client = leads.client;
       leader = let d = leads.leader in record { number = d.number; op = d.op; file = d.file; parts = d.parts; mode = d.mode };
-      plain = plain_still leads.plain;
+      plain = λ free. plain_still (leads.plain free);
     }
 
     pub leading_after : (z : Server) → In z servers → (x : Leading) → In x z.leading → IsLeading c.lines z held.parts x

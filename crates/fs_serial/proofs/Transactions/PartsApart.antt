@@ -5,18 +5,13 @@ use Rattle.std.specs.List.{list_any}
 use Rattle.std.proofs.lemmas.Bool.{eqb-false}
 use Rattle.fs_ident.specs.Ident.{same}
 use Rattle.fs_ident.proofs.Standing.{In-got, none_any}
-use Rattle.fs_ident.specs.declared.kind.Kind.{Kind}
-use Rattle.fs_ident.specs.declared.kind.Kind.TheVariants.{File, Dir}
 use Rattle.fs_field.specs.declared.used.Part.{Part}
 use Rattle.fs_field.specs.declared.used.Use.{Use}
 use Rattle.fs_model.specs.Asking.{home_of}
 use Rattle.fs_model.specs.declared.op.Op.{Op}
-use Rattle.fs_model.specs.declared.op.Op.TheVariants as op
 use Rattle.fs_msg.specs.declared.lead.Lead.{Lead as ToLead}
 use Rattle.fs_server.specs.Begins.{parts_in}
-use Rattle.fs_server.specs.Leads.{mode_of, uses_of, wants_path}
-use Rattle.fs_server.specs.declared.state.Server.{Server}
-use Rattle.fs_txn.specs.Deciding.{needs_path}
+use Rattle.fs_server.specs.Leads.{uses_of}
 use Rattle.fs_txn.specs.Parts.{led_files, part_at, source_of, uses_on, with_file}
 use Rattle.fs_txn.specs.declared.mode.Mode2.{Mode2}
 use Rattle.fs_txn.specs.declared.mode.Mode2.TheVariants.{Plain}
@@ -86,14 +81,3 @@ uses_alike mode o file uses (f ∷ fs) = ap (λ us. uses_on f uses ++ us) (uses_
 
 pub uses_any : (mode : Mode2) (m : ToLead) → uses_of (parts_in mode m) ≡ uses_of (parts_in Plain m)
 uses_any mode m = uses_alike mode m.op m.file m.uses (led_files m.op m.file)
-
--- ## What the decision stands on
-
-needs_none : (o : Op) (kind : Kind) → needs_path (mode_of o kind) o ≡ false
-needs_none (op.Delete dir name) File = refl
-needs_none (op.Delete dir name) Dir = refl
-needs_none o kind = refl
-
--- where it begins, it stands on no path
-pub mode_needs_none : (m : ToLead) (s : Server) → wants_path s m.op m.kind ≡ false → needs_path (mode_of m.op m.kind) m.op ≡ false
-mode_needs_none m s free = needs_none m.op m.kind

@@ -1,5 +1,5 @@
 -- Where path leases are in the way of a part, they are asked back: by messages of path leases alone, which speak of no transaction.
-use Rattle.std.proofs.Common.{◌≡◌, ℕ, List, [], ◌∷◌, refl, sym, ap, subst, inl, inr}
+use Rattle.std.proofs.Common.{◌≡◌, ℕ, List, [], ◌∷◌, refl, sym, subst, inl, inr}
 use Rattle.std.specs.Prelude.{Option, Some, None}
 use Rattle.fs_ident.specs.In.{In}
 use Rattle.fs_ident.specs.declared.actor.PathNo.{PathNo}
@@ -13,13 +13,12 @@ use Rattle.fs_msg.specs.declared.msg.Msg.{Msg}
 use Rattle.fs_msg.specs.declared.msg.Msg.TheVariants as msg
 use Rattle.fs_msg.specs.declared.peer_msg.PeerMsg.{PeerMsg}
 use Rattle.fs_msg.specs.declared.peer_msg.PeerMsg.TheVariants as peer
-use Rattle.fs_path.specs.Leases.{PathLease, goes_over}
+use Rattle.fs_path.specs.Leases.{goes_over}
 use Rattle.fs_path.specs.Returns.{recalls}
 use Rattle.fs_server.specs.Follows.{path_recalls, recalls_for, recalls_over}
 use Rattle.fs_server.specs.declared.state.Server.{Server}
 use Rattle.fs_serial.specs.Cluster.{Lines, in_flight_from, parcels_of, with_sent}
 use Rattle.fs_serial.specs.PathLaws.{IsPathMessage}
-use Rattle.fs_serial.specs.Seen.{HasNoPaths}
 use Rattle.fs_serial.specs.Words.{decided_among, decided_by, telling_of}
 use Rattle.fs_serial.proofs.Moves.PathSteps.{ArePathSends, none_handed, none_worded, recalls_sent}
 
@@ -94,16 +93,3 @@ recalls_decide_nothing servers from v s p = none_decided servers from (recalls_f
 pub recalls_answer_nothing : (k : ℕ) (v : Vote) (s : Server) (p : Part) (lines : Session → Lines)
     → with_sent k (recalls_for v s p) lines ≡ lines
 recalls_answer_nothing k v s p lines = none_answered k (recalls_for v s p) (recalls_on_paths v s p) lines
-
--- ## Where the server gave out no path
-
-over_none : (s : Server) → HasNoPaths s → (o : Option (List ℕ)) → recalls_over s o ≡ []
-over_none s none None = refl
-over_none s none (Some file) = ap (λ (issued : List PathLease). path_recalls (recalls (goes_over file) issued)) none.0
-
--- none is asked back
-pub no_recalls : (s : Server) → HasNoPaths s → (v : Vote) (p : Part) → recalls_for v s p ≡ []
-no_recalls s none (PathsOut lease) p = over_none s none p.freeze
-no_recalls s none Yes p = refl
-no_recalls s none (Ended lease until now) p = refl
-no_recalls s none (Moved prefix to) p = refl

@@ -6,7 +6,6 @@ use Rattle.std.proofs.lemmas.List.Elements.{filter-append, filter_map-append}
 use Rattle.std.proofs.lemmas.List.Concat.{flat_map-append}
 use Rattle.fs_ident.specs.In.{In}
 use Rattle.fs_ident.specs.declared.actor.Peer.{Peer}
-use Rattle.fs_ident.specs.declared.actor.Peer.TheVariants.{Client as OfSession, Server as OfServer}
 use Rattle.fs_ident.specs.declared.actor.Session.{Session}
 use Rattle.fs_ident.specs.declared.actor.TxnNo.{TxnNo}
 use Rattle.fs_ident.proofs.Same.{itself}
@@ -37,8 +36,9 @@ use Rattle.fs_txn.specs.Votes.{Votes}
 use Rattle.fs_txn.specs.declared.leading.Leading.{Leading}
 use Rattle.fs_txn.specs.declared.mode.Mode2.{Mode2}
 use Rattle.fs_txn.proofs.Locking.{used_same}
-use Rattle.fs_serial.specs.Cluster.{InFlight, in_flight_from}
+use Rattle.fs_serial.specs.Cluster.{in_flight_from}
 use Rattle.fs_serial.specs.Words.{telling_of, told_in}
+use Rattle.fs_serial.proofs.Lists.Traffic.{sent_append}
 use Rattle.fs_serial.proofs.Transactions.OwnVotes.{voted_stay, yes_stands}
 use Rattle.fs_serial.proofs.Transactions.Recalled.{recalls_tell_nothing}
 use Rattle.fs_serial.proofs.Transactions.Tables.{locks_alike, said_its}
@@ -224,14 +224,6 @@ module _ (mode : Mode2) (txn : TxnNo) (by : Session) (m : ToLead) (me : ℕ) (sa
 abbrev pub NoDecision : ℕ → List (Peer × Msg) → Type 0
 NoDecision k sent =
     (key : Key) (at : ℕ) (effects : List Effect) → In (word_to key at (Decide effects)) (telling_of (in_flight_from k sent)) → ⊥
-
-pub sent_append : (k : ℕ) (xs ys : List (Peer × Msg)) → in_flight_from k (xs ++ ys) ≡ in_flight_from k xs ++ in_flight_from k ys
-sent_append k [] ys = refl
-sent_append k ((OfServer to, msg.Peer m) ∷ xs) ys =
-    ap (λ fs. (let f : InFlight = record { from = k; to = to; message = m } in f) ∷ fs) (sent_append k xs ys)
-sent_append k ((OfServer to, msg.Client m) ∷ xs) ys = sent_append k xs ys
-sent_append k ((OfServer to, msg.Answer m) ∷ xs) ys = sent_append k xs ys
-sent_append k ((OfSession to, m) ∷ xs) ys = sent_append k xs ys
 
 -- nor is one behind, where these messages tell none
 more_undecided : (k : ℕ) (sent more : List (Peer × Msg)) → NoDecision k sent → NoDecision k more → NoDecision k (sent ++ more)

@@ -34,7 +34,8 @@ use Rattle.fs_serial.proofs.Lists.ByPlace.{front_at, last_at, other_at}
 use Rattle.fs_serial.proofs.Transactions.Desks.{stand_alike, telling_append}
 use Rattle.fs_serial.proofs.Transactions.OwnVotes.{counts_here, stage_counted}
 use Rattle.fs_serial.proofs.Transactions.Recalled.{recalls_answer_nothing, recalls_tell_nothing}
-use Rattle.fs_serial.proofs.Transactions.RoundsLocks.{round_at, round_by, round_me, round_votes, sent_append}
+use Rattle.fs_serial.proofs.Transactions.RoundsLocks.{round_at, round_by, round_me, round_votes}
+use Rattle.fs_serial.proofs.Lists.Traffic.{sent_append}
 
 -- ## What all rounds do
 

@@ -1,5 +1,5 @@
 -- A server takes a step that leaves its transactions, and the one that has all takes the same: all that holds of the cluster holds then.
-use Rattle.std.proofs.Common.{◌≡◌, ℕ, ◌≤◌, List, ◌++◌, refl, sym, ap, ap₂, ◌∙◌, subst, inl, inr, arith}
+use Rattle.std.proofs.Common.{◌≡◌, ℕ, ◌≤◌, List, ◌++◌, length, length-set, refl, sym, ap, ap₂, ◌∙◌, subst, inl, inr, arith}
 use Rattle.std.specs.Prelude.{Some, slice_get, slice_set}
 use Rattle.fs_ident.specs.In.{In}
 use Rattle.fs_ident.specs.declared.actor.Session.{Session}
@@ -17,7 +17,7 @@ use Rattle.fs_serial.specs.Exchange.{OneExchange, asked_server}
 use Rattle.fs_serial.specs.Leading.{LeavesLed, LedHolds}
 use Rattle.fs_serial.specs.Owed.{ends_in}
 use Rattle.fs_serial.specs.Places.{PlacesHold}
-use Rattle.fs_serial.specs.Seen.{ClusterHolds, HasNoPaths, IsAddressed, counts_of, given_at, reaps_at, world_of}
+use Rattle.fs_serial.specs.Seen.{ClusterHolds, HasPeers, IsAddressed, counts_of, given_at, reaps_at, world_of}
 use Rattle.fs_serial.specs.Sight.{count_with}
 use Rattle.fs_serial.specs.Words.{decided_in}
 use Rattle.fs_serial.specs.World.{World}
@@ -70,9 +70,9 @@ module _ (skew greatest k : ℕ) (c : Cluster) (s : Server) (at : slice_get c.se
 
   -- what one server that stepped sees, all see
   pub all_stand : (then : Cluster) (t : Server) → then.servers ≡ slice_set c.servers k t → t.skew ≡ s.skew → t.last ≤ greatest
-      → PlacesHold then → (HasNoPaths s → HasNoPaths t) → LedHolds then → WorldStands greatest (world_of t then)
+      → PlacesHold then → (HasPeers (length c.servers) s.paths → HasPeers (length c.servers) t.paths) → LedHolds then → WorldStands greatest (world_of t then)
       → ((x : Session) → IsAddressed (then.lines x)) → ClusterHolds skew greatest then
-  all_stand then t set same clock places none led seen addressed =
+  all_stand then t set same clock places peers led seen addressed =
       let there : slice_get then.servers k ≡ Some t = ap (λ ss. slice_get ss k) set ∙ get_here c.servers k s t at in
       let skewed : (u : Server) → In u then.servers → u.skew ≡ skew = λ u i.
       elim (In_set c.servers k t u (subst (In u) set i)) as (λ _. u.skew ≡ skew) [
@@ -90,10 +90,11 @@ module _ (skew greatest k : ℕ) (c : Cluster) (s : Server) (at : slice_get c.se
         addressed = addressed;
         places = places;
         led = led;
-        pathless = λ u i. elim (In_set c.servers k t u (subst (In u) set i)) as (λ _. HasNoPaths u) [
-          | inl q ↦ subst HasNoPaths (sym q) (none (h.pathless s (In-got c.servers k s at)))
-          | inr j ↦ h.pathless u j
-        ];
+        peers = λ u i. subst (λ n. HasPeers n u.paths) (sym (ap length set ∙ length-set c.servers k t))
+            (elim (In_set c.servers k t u (subst (In u) set i)) as (λ _. HasPeers (length c.servers) u.paths) [
+              | inl q ↦ subst (λ (z : Server). HasPeers (length c.servers) z.paths) (sym q) (peers (h.peers s (In-got c.servers k s at)))
+              | inr j ↦ h.peers u j
+            ]);
       }
 
   module _ (e : ServerEvent) (there : IsThere k e c) (small big : Stepped) (q : IsSameStep k e s small big c)
@@ -137,10 +138,10 @@ module _ (skew greatest k : ℕ) (c : Cluster) (s : Server) (at : slice_get c.se
               ∙ ap (λ (o : ServerOut). world.with_sent o.send (world.without_taken e (ends_in c)) y) q.out;
         }) decided clock
 
-    pub stands_after : (HasNoPaths s → HasNoPaths small.server)
+    pub stands_after : (HasPeers (length c.servers) s.paths → HasPeers (length c.servers) small.server.paths)
         → AreDue k small.out.send (λ z. asked_server (without_question k e c.lines z).client.exchange)
         → WorldStands greatest made → ClusterHolds skew greatest after
-    stands_after none due held =
-        all_stand after small.server refl q.skew clock (step_places k e s small big c at h.places q) none
+    stands_after peers due held =
+        all_stand after small.server refl q.skew clock (step_places k e s small big c at h.places q) peers
         (step_keeps_led k e s small c at h.led leaves) (seen_after held)
         (sent_addressed k small.out.send (without_question k e c.lines) due (taken_addressed k e c.lines h.addressed))

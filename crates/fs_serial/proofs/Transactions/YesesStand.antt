@@ -1,5 +1,5 @@
 -- Where all parts of a transaction said Yes, the rows of all leases that it used stand.
-use Rattle.std.proofs.Common.{◌≡◌, ◌==◌, ℕ, true, false, List, map, refl, sym, ap, ◌∙◌, subst, cond, inl}
+use Rattle.std.proofs.Common.{◌≡◌, ◌==◌, ℕ, true, false, List, map, refl, sym, ap, ◌∙◌, subst, inl}
 use Rattle.std.specs.Prelude.{Option, Some, None, slice_get}
 use Rattle.std.specs.List.{flat_map}
 use Rattle.std.proofs.lemmas.Bool.{eqb-true}
@@ -14,14 +14,13 @@ use Rattle.fs_client.specs.Led.{lead_of}
 use Rattle.fs_client.specs.declared.led.Led.{Led as TheLed}
 use Rattle.fs_server.specs.Begins.{parts_in}
 use Rattle.fs_server.specs.declared.state.Server.{Server}
-use Rattle.fs_txn.specs.Deciding.{agreed, by_path, commit, first_end, needs_path, reply_of, unless_ended}
+use Rattle.fs_txn.specs.Deciding.{first_end}
 use Rattle.fs_txn.specs.Leading.{said_by}
 use Rattle.fs_txn.specs.Locks.{Agreed}
 use Rattle.fs_txn.specs.Ready.{agreed_of}
 use Rattle.fs_txn.specs.Stages.{Key, Wanted}
 use Rattle.fs_txn.specs.declared.leader.Leader.{Leader}
 use Rattle.fs_txn.specs.declared.leading.Leading.{Leading}
-use Rattle.fs_txn.proofs.Yeses.{commit_yes}
 use Rattle.fs_serial.specs.Cluster.{Cluster, parcels_of}
 use Rattle.fs_serial.specs.Leading.{IsLeading, IsLedBy, LedHolds}
 use Rattle.fs_serial.specs.Led.{LedStands}
@@ -33,6 +32,7 @@ use Rattle.fs_serial.specs.World.{settled_at, sight_in}
 use Rattle.fs_serial.specs.Seen.{ClusterHolds, world_of}
 use Rattle.fs_serial.proofs.DecidedEffects.ToldParts.{HasReady}
 use Rattle.fs_serial.proofs.Lists.Servers.{In_at}
+use Rattle.fs_serial.proofs.Paths.SourceParts.{all_yes}
 use Rattle.fs_serial.proofs.Places.HeldRows.{row_of_all}
 use Rattle.fs_serial.proofs.Transactions.OwnersOfLocks.{in_range}
 use Rattle.fs_serial.proofs.Transactions.PartsApart.{uses_any}
@@ -67,13 +67,9 @@ said_stands c led s i y j = stand_in c s y.wanted.session y.wanted.part.uses i (
 -- ## Each part
 
 -- where nothing ends the transaction, each of its parts said Yes
-pub voted_all : (l : Leader) → needs_path l.mode l.op ≡ false → first_end l.votes ≡ None → (n : ℕ) (v : Option Vote) → slice_get l.votes n ≡ Some v
+pub voted_all : (l : Leader) → first_end l.votes ≡ None → (n : ℕ) (v : Option Vote) → slice_get l.votes n ≡ Some v
     → slice_get l.votes n ≡ Some (Some Yes)
-voted_all l free none n v e =
-    let r = reply_of l.op in
-    let goes : unless_ended (first_end l.votes) (agreed l None) ≡ commit l r =
-    ap (λ o. unless_ended o (agreed l None)) none ∙ ap (λ b. cond b (by_path l None) (commit l r)) free in
-    e ∙ ap Some (commit_yes l None r _ goes v (In-got l.votes n v e))
+voted_all l none n v e = e ∙ ap Some (all_yes l.votes none n v e)
 
 module _ (k skew greatest : ℕ) (c : Cluster) (s : Server) (at : slice_get c.servers k ≡ Some s) (h : ClusterHolds skew greatest c)
     (l : Leading) (j : In l s.leading) (d : TheLed) (led : IsLedBy c.lines l.leader.session k d) where
@@ -107,7 +103,7 @@ module _ (k skew greatest : ℕ) (c : Cluster) (s : Server) (at : slice_get c.se
       yes : slice_get l.leader.votes n ≡ Some (Some Yes)
       yes =
           let v = in_range l.leader.parts l.leader.votes n p (sym leads.votes) part in
-          voted_all l.leader leads.leader.mode none n v.0 v.1
+          voted_all l.leader none n v.0 v.1
 
       -- the leader has it
       own_stands : slice_get l.at n ≡ Some s.me → AllStand (rows_in c) by p.uses

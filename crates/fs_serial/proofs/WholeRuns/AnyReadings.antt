@@ -39,14 +39,16 @@ use Rattle.fs_serial.specs.Places.{IsHome, IsSent, PlacesHold}
 use Rattle.fs_serial.specs.Runs.{CanRun, Dated, IsOrderly, greatest_in, run}
 use Rattle.fs_serial.specs.Serial.{AreSound}
 use Rattle.fs_serial.specs.World.{pushed, told_by, with_told}
-use Rattle.fs_serial.specs.Seen.{ClusterHolds}
+use Rattle.fs_serial.specs.Whole.{ClusterStands}
 use Rattle.fs_serial.proofs.DecidedEffects.HeldSeen.{held_same, held_seen}
 use Rattle.fs_serial.proofs.Replies.Answering.{AnswerEnds, answer_ends, as_entry, as_led, as_move, as_read, not_told, put_off}
 use Rattle.fs_serial.proofs.Transactions.ClientsStand.{answer_known, hears_stands, plain_stands, plainly, turn_stands}
-use Rattle.fs_serial.proofs.Transactions.FirstStands.{first_stands}
+use Rattle.fs_serial.proofs.Paths.ClientsKeep.{clients_keep_paths, plan_keeps}
+use Rattle.fs_serial.proofs.Paths.KeptClients.{client_kept, few_one, plan_kept}
+use Rattle.fs_serial.proofs.Transactions.ClientsWait.{client_waits}
 use Rattle.fs_serial.proofs.WholeRuns.ClusterClients.{some_server}
 use Rattle.fs_serial.proofs.Lists.Journals.{made_in-append, or_assoc, or_none}
-use Rattle.fs_serial.proofs.WholeRuns.ClusterRuns.{cluster_later}
+use Rattle.fs_serial.proofs.WholeRuns.ClusterRuns.{first_all, stands_later}
 use Rattle.fs_serial.proofs.WholeRuns.ClusterSteps.{server_keeps}
 use Rattle.fs_serial.proofs.WholeRuns.EventsKeep.{EventsKeep, runs_keep}
 use Rattle.fs_serial.proofs.Replies.Read.{no_kind, plain_read, unmade_read}
@@ -136,14 +138,14 @@ pub record HoldsAnyhow (skew greatest : ℕ) (c : Cluster) : Type 0 where
   pub journal : List Item
   pub replied : Session → List Item
   pub same : (id : List ℕ) → made_in journal id ≡ made_in c.journal id
-  pub holds : ClusterHolds skew greatest (told_as journal replied c)
+  pub whole : ClusterStands skew greatest (told_as journal replied c)
 
 pub anyhow_later : (skew greatest later : ℕ) (c : Cluster) → greatest ≤ later → HoldsAnyhow skew greatest c → HoldsAnyhow skew later c
 anyhow_later skew greatest later c rises h = record {
   journal = h.journal;
   replied = h.replied;
   same = h.same;
-  holds = cluster_later skew greatest later (told_as h.journal h.replied c) rises h.holds;
+  whole = stands_later skew greatest later (told_as h.journal h.replied c) rises h.whole;
 }
 
 pub first_anyhow : (servers skew term greatest : ℕ) → 1 ≤ servers → HoldsAnyhow skew greatest (first_cluster servers skew term)
@@ -151,7 +153,7 @@ first_anyhow servers skew term greatest some = record {
   journal = [];
   replied = λ x. [];
   same = λ id. refl;
-  holds = first_stands servers skew term greatest some;
+  whole = first_all servers skew term greatest some;
 }
 
 -- ## A server's events
@@ -169,14 +171,14 @@ pub server_anyhow : (skew greatest now k : ℕ) (e : ServerEvent) (s : Server) (
     → HoldsAnyhow skew greatest (after_server now k e c)
 server_anyhow skew greatest now k e s c at before there h =
     let d = told_as h.journal h.replied c in
-    let kept : ClusterHolds skew greatest (after_server now k e d) = server_keeps skew greatest now k e s d at before
-    (there_too k e h.journal h.replied c there) h.holds in
+    let kept : ClusterStands skew greatest (after_server now k e d) = server_keeps skew greatest now k e s d at before
+    (there_too k e h.journal h.replied c there) h.whole in
     let more = (step s now e).out.admitted in
     subst (λ (o : Option Server). HoldsAnyhow skew greatest (after_server_at o now k e c)) (sym at) (record {
       journal = h.journal ++ more;
       replied = replies_after e more h.replied;
       same = λ id. same_behind h.journal c.journal more id (h.same id);
-      holds = subst (λ (o : Option Server). ClusterHolds skew greatest (after_server_at o now k e d)) at kept;
+      whole = subst (λ (o : Option Server). ClusterStands skew greatest (after_server_at o now k e d)) at kept;
     })
 
 -- ## A client's events
@@ -191,13 +193,18 @@ pub client_anyhow : (skew greatest now : ℕ) (c : Cluster) (by : Session) → H
     → CanCome by e c → HoldsAnyhow skew greatest (after_client by now e c)
 client_anyhow skew greatest now c by h (Does o) can =
     let d = told_as h.journal h.replied c in
-    let p = plainly skew greatest d by h.holds now o in
+    let p = plainly skew greatest d by h.whole.holds now o in
     record {
       journal = pushed p.out.admitted h.journal;
       replied = with_told by (told_by by p.ready.change p.out.admitted) h.replied;
       same = λ id. same_read (λ i. plain_read (nodes_of (held_seen c)) by (c.lines by).client.next) (λ i j. refl)
           (act_plan (c.lines by).client now o).out.admitted (act_none (c.lines by).client now o) h.journal c.journal id (h.same id);
-      holds = plain_stands skew greatest d by h.holds now o can;
+      whole = record {
+        holds = plain_stands skew greatest d by h.whole.holds now o can;
+        paths = plan_keeps by (c.lines by).down p d h.whole.paths;
+        kept = plan_kept skew greatest now d by h.whole.holds h.whole.kept (c.lines by).down p
+            (client_waits by d (few_one skew greatest now d by h.whole.holds h.whole.kept) now (Does o) can);
+      };
     }
 client_anyhow skew greatest now c by h Turns can =
     let d = told_as h.journal h.replied c in
@@ -206,7 +213,11 @@ client_anyhow skew greatest now c by h Turns can =
       journal = pushed p.out.admitted h.journal;
       replied = with_told by (told_by by p.ready.change p.out.admitted) h.replied;
       same = λ id. same_pushed p.out.admitted h.journal c.journal id (h.same id);
-      holds = turn_stands skew greatest d by h.holds now;
+      whole = record {
+        holds = turn_stands skew greatest d by h.whole.holds now;
+        paths = clients_keep_paths by now Turns d h.whole.paths;
+        kept = client_kept skew greatest now d by h.whole.holds h.whole.kept Turns tt;
+      };
     }
 client_anyhow skew greatest now c by h (Hears from a) can =
     let d = told_as h.journal h.replied c in
@@ -215,12 +226,18 @@ client_anyhow skew greatest now c by h (Hears from a) can =
       journal = pushed p.out.admitted h.journal;
       replied = with_told by (told_by by p.ready.change p.out.admitted) h.replied;
       same = λ id. same_pushed p.out.admitted h.journal c.journal id (h.same id);
-      holds = hears_stands skew greatest d by h.holds from a (come_too by (Hears from a) h.journal h.replied c can) now;
+      whole =
+          let too = come_too by (Hears from a) h.journal h.replied c can in
+          record {
+            holds = hears_stands skew greatest d by h.whole.holds from a too now;
+            paths = clients_keep_paths by now (Hears from a) d h.whole.paths;
+            kept = client_kept skew greatest now d by h.whole.holds h.whole.kept (Hears from a) too;
+          };
     }
 
 pub client_plain_anyhow : (skew greatest now from : ℕ) (a : Answer) (by : Session) (c : Cluster) → CanCome by (Hears from a) c
     → HoldsAnyhow skew greatest c → (answer_plan (c.lines by).client now from a).out.note ≢ client_note.Strange
-client_plain_anyhow skew greatest now from a by c can h = answer_known skew greatest (told_as h.journal h.replied c) by h.holds from a
+client_plain_anyhow skew greatest now from a by c can h = answer_known skew greatest (told_as h.journal h.replied c) by h.whole.holds from a
     (come_too by (Hears from a) h.journal h.replied c can) now
 
 -- ## What comes of it
@@ -250,7 +267,7 @@ module _ (skew greatest : ℕ) (c : Cluster) (h : HoldsAnyhow skew greatest c) w
 
   pub anyhow_places : PlacesHold c
   anyhow_places =
-      let p = h.holds.places in
+      let p = h.whole.holds.places in
       record {
         one = p.one;
         homes = λ s i. home_too s (p.homes s i);
@@ -263,9 +280,9 @@ module _ (skew greatest : ℕ) (c : Cluster) (h : HoldsAnyhow skew greatest c) w
 
   pub anyhow_orderly : IsOrderly c
   anyhow_orderly =
-      let q = some_server (told_as h.journal h.replied c) h.holds.places in
-      let all = (h.holds.parts q.0 q.1).0.all in
-      record { places = anyhow_places; apart = all.servers.apart; sound = subst AreSound (sym (held_same (told_as h.journal h.replied c) h.holds.led)) all.kept.sound }
+      let q = some_server (told_as h.journal h.replied c) h.whole.holds.places in
+      let all = (h.whole.holds.parts q.0 q.1).0.all in
+      record { places = anyhow_places; apart = all.servers.apart; sound = subst AreSound (sym (held_same (told_as h.journal h.replied c) h.whole.holds.led)) all.kept.sound }
 
 -- ## Runs
 
@@ -275,7 +292,7 @@ anyhow_keep skew = record {
   Holds = HoldsAnyhow skew;
   Within = λ greatest now. Unit {0};
   later = anyhow_later skew;
-  clock = λ greatest s c i h. (h.holds.parts s i).0.clock;
+  clock = λ greatest s c i h. (h.whole.holds.parts s i).0.clock;
   server = λ greatest now k e s c at clock within there h.
       server_anyhow skew (max greatest now) now k e s c at (omega (arith, clock)) there
       (anyhow_later skew greatest (max greatest now) c (omega arith) h);

@@ -18,16 +18,19 @@ use Rattle.fs_server.specs.Ships.{item_of}
 use Rattle.fs_server.specs.Step.{step}
 use Rattle.fs_server.specs.declared.event.ServerEvent.TheVariants.{FromClient}
 use Rattle.fs_server.specs.declared.state.Server.{Server}
-use Rattle.fs_serial.specs.Cluster.{Cluster, IsThere, after_client, first_cluster, is_with}
+use Rattle.fs_serial.specs.Cluster.{CanCome, ClientEvent, Cluster, IsThere, after_client, first_cluster, is_with}
+use Rattle.fs_serial.specs.KeptFiles.{FilesKept}
 use Rattle.fs_serial.specs.Numbers.{AreNumbered, items_at, items_by}
 use Rattle.fs_serial.specs.Leading.{LedHolds}
 use Rattle.fs_serial.specs.Owed.{ends_in, taken_leads}
+use Rattle.fs_serial.specs.Paths.{PathsHold, PathsStand}
 use Rattle.fs_serial.specs.Refusals.{rows_in}
 use Rattle.fs_serial.specs.Runs.{Dated, IsOneSerialRun, IsRun, greatest_in, held_by, run}
 use Rattle.fs_serial.specs.Seen.{ClusterHolds, counts_of, world_of}
 use Rattle.fs_serial.specs.Serial.{JournalSerial}
 use Rattle.fs_serial.specs.Sight.{seen}
 use Rattle.fs_serial.specs.Steps.{AllStand, AreRepliesFrom}
+use Rattle.fs_serial.specs.Whole.{ClusterStands}
 use Rattle.fs_serial.specs.World.{WorldHolds, settled_at}
 use Rattle.fs_serial.proofs.DecidedEffects.StoredBeside.{all_seen}
 use Rattle.fs_serial.proofs.Admission.Admitted.{admitted_at_once}
@@ -36,6 +39,11 @@ use Rattle.fs_serial.proofs.DecidedEffects.HeldSeen.{held_same}
 use Rattle.fs_serial.proofs.Lists.Traffic.{messages}
 use Rattle.fs_serial.proofs.OneServer.ServerEvents.{all_plain}
 use Rattle.fs_serial.proofs.OtherSessions.Rising.{world_later}
+use Rattle.fs_serial.proofs.Paths.ClientsKeep.{clients_keep_paths}
+use Rattle.fs_serial.proofs.Paths.First.{first_paths}
+use Rattle.fs_serial.proofs.Paths.KeptBegins.{first_kept}
+use Rattle.fs_serial.proofs.Paths.KeptClients.{client_kept}
+use Rattle.fs_serial.proofs.Paths.Standing.{paths_stand}
 use Rattle.fs_serial.proofs.Transactions.ClientsStand.{client_stands}
 use Rattle.fs_serial.proofs.Transactions.FirstStands.{first_stands}
 use Rattle.fs_serial.proofs.WholeRuns.ClusterClients.{some_server}
@@ -49,7 +57,14 @@ cluster_later skew greatest later c rises h = record {
   addressed = h.addressed;
   places = h.places;
   led = h.led;
-  pathless = h.pathless;
+  peers = h.peers;
+}
+
+pub stands_later : (skew greatest later : ℕ) (c : Cluster) → greatest ≤ later → ClusterStands skew greatest c → ClusterStands skew later c
+stands_later skew greatest later c rises w = record {
+  holds = cluster_later skew greatest later c rises w.holds;
+  paths = w.paths;
+  kept = w.kept;
 }
 
 -- ## What comes of it
@@ -99,31 +114,68 @@ admitted_always skew greatest now k s c by front rest e at there h mine stand =
     admitted_at_once s now by front rest e
     (all_plain greatest (world_of s c) by entries coming (h.parts s (In-got c.servers k s at)).0) mine stand
 
+-- ## A client's event, and the start
+
+pub client_keeps_all : (skew greatest now : ℕ) (c : Cluster) (by : Session) → ClusterStands skew greatest c → (e : ClientEvent) → CanCome by e c
+    → greatest ≤ now + skew → ClusterStands skew greatest (after_client by now e c)
+client_keeps_all skew greatest now c by w e can within = record {
+  holds = client_stands skew greatest c by w.holds now e can within;
+  paths = clients_keep_paths by now e c w.paths;
+  kept = client_kept skew greatest now c by w.holds w.kept e can;
+}
+
+pub first_all : (servers skew term greatest : ℕ) → 1 ≤ servers → ClusterStands skew greatest (first_cluster servers skew term)
+first_all servers skew term greatest some = record {
+  holds = first_stands servers skew term greatest some;
+  paths = first_paths servers skew term;
+  kept = first_kept servers skew term;
+}
+
 -- ## Runs
 
 -- an event comes in time where no reading before it is ahead of its own by more than the skew
 abbrev pub all_keep : ℕ → EventsKeep
 all_keep skew = record {
-  Holds = ClusterHolds skew;
+  Holds = ClusterStands skew;
   Within = λ greatest now. greatest ≤ now + skew;
-  later = cluster_later skew;
-  clock = λ greatest s c i h. (h.parts s i).0.clock;
-  server = λ greatest now k e s c at clock within there h.
+  later = stands_later skew;
+  clock = λ greatest s c i w. (w.holds.parts s i).0.clock;
+  server = λ greatest now k e s c at clock within there w.
       server_keeps skew (max greatest now) now k e s c at (omega (arith, clock)) there
-      (cluster_later skew greatest (max greatest now) c (omega arith) h);
-  client = λ greatest now c by h e can within.
-      cluster_later skew greatest (max greatest now) (after_client by now e c) (omega arith)
-      (client_stands skew greatest c by h now e can within);
+      (stands_later skew greatest (max greatest now) c (omega arith) w);
+  client = λ greatest now c by w e can within.
+      stands_later skew greatest (max greatest now) (after_client by now e c) (omega arith)
+      (client_keeps_all skew greatest now c by w e can within);
   Comes = IsRun skew;
   next = λ greatest e es c r. r;
 }
 
-pub run_keeps : (skew greatest : ℕ) (es : List Dated) (c : Cluster) → ClusterHolds skew greatest c → IsRun skew greatest es c
-    → ClusterHolds skew (greatest_in greatest es) (run es c)
+pub run_keeps : (skew greatest : ℕ) (es : List Dated) (c : Cluster) → ClusterStands skew greatest c → IsRun skew greatest es c
+    → ClusterStands skew (greatest_in greatest es) (run es c)
 run_keeps skew = runs_keep (all_keep skew)
+
+-- from the start on
+pub all_stands : (servers skew term : ℕ) (es : List Dated) → 1 ≤ servers → IsRun skew 0 es (first_cluster servers skew term)
+    → ClusterStands skew (greatest_in 0 es) (run es (first_cluster servers skew term))
+all_stands servers skew term es some r =
+    run_keeps skew 0 es (first_cluster servers skew term) (first_all servers skew term 0 some) r
+
+-- so of paths too: what they rest on, and the files that servers keep
+pub all_paths : (servers skew term : ℕ) (es : List Dated) → 1 ≤ servers → IsRun skew 0 es (first_cluster servers skew term)
+    → PathsHold (run es (first_cluster servers skew term))
+all_paths servers skew term es some r = (all_stands servers skew term es some r).paths
+
+pub all_rests : (servers skew term : ℕ) (es : List Dated) → 1 ≤ servers → IsRun skew 0 es (first_cluster servers skew term)
+    → PathsStand (run es (first_cluster servers skew term))
+all_rests servers skew term es some r =
+    let w = all_stands servers skew term es some r in
+    paths_stand skew (greatest_in 0 es) (run es (first_cluster servers skew term)) w.holds w.kept
+
+pub all_kept : (servers skew term : ℕ) (es : List Dated) → 1 ≤ servers → IsRun skew 0 es (first_cluster servers skew term)
+    → FilesKept (run es (first_cluster servers skew term))
+all_kept servers skew term es some r = (all_stands servers skew term es some r).kept
 
 pub all_runs : (servers skew term : ℕ) (es : List Dated) → 1 ≤ servers → IsRun skew 0 es (first_cluster servers skew term)
     → IsOneSerialRun (run es (first_cluster servers skew term))
 all_runs servers skew term es some r =
-    outcome skew (greatest_in 0 es) (run es (first_cluster servers skew term))
-    (run_keeps skew 0 es (first_cluster servers skew term) (first_stands servers skew term 0 some) r)
+    outcome skew (greatest_in 0 es) (run es (first_cluster servers skew term)) (all_stands servers skew term es some r).holds

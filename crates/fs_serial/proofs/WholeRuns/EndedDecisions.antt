@@ -9,6 +9,8 @@ use Rattle.fs_ident.specs.declared.actor.Session.{Session}
 use Rattle.fs_ident.specs.declared.actor.TxnNo.{TxnNo}
 use Rattle.fs_ident.proofs.Passing.{found}
 use Rattle.fs_field.specs.Table.{same_txn}
+use Rattle.fs_field.specs.declared.path.PathAnswer.{PathAnswer}
+use Rattle.fs_field.specs.declared.path.PathAnswer.TheVariants.{Frozen, Path, Wanted}
 use Rattle.fs_field.specs.declared.vote.Vote.TheVariants as vote
 use Rattle.fs_record.specs.declared.led_end.LedEnd.{LedEnd}
 use Rattle.fs_record.specs.declared.led_end.LedEnd.TheVariants as led
@@ -25,14 +27,15 @@ use Rattle.fs_server.specs.LeadingLaws.{CommitSplits}
 use Rattle.fs_server.specs.Server.{Stepped}
 use Rattle.fs_server.specs.declared.event.ServerEvent.{ServerEvent}
 use Rattle.fs_server.specs.declared.state.Server.{Server}
-use Rattle.fs_txn.specs.Deciding as deciding
-use Rattle.fs_txn.specs.Deciding.{agreed, commit, decision, first_end, needs_path, reply_of, told_effects, unless_ended}
+use Rattle.fs_txn.specs.Deciding.{agreed, by_files, by_path, commit, decision, has_file, first_end, needs_path, reply_of, told_effects, unless_ended}
 use Rattle.fs_txn.specs.Leading.{elsewhere, end_of_decision, leading_of}
 use Rattle.fs_txn.specs.Votes.{Votes, is_full}
 use Rattle.fs_txn.specs.declared.decision.Decision.{Decision}
 use Rattle.fs_txn.specs.declared.leader.Leader.{Leader}
 use Rattle.fs_txn.specs.declared.leading.Ending.{Ending}
 use Rattle.fs_txn.specs.declared.leading.Leading.{Leading}
+use Rattle.fs_txn.specs.declared.mode.Mode2.{Mode2}
+use Rattle.fs_txn.specs.declared.mode.Mode2.TheVariants.{Check, Freeze, Plain}
 use Rattle.fs_serial.specs.Cluster.{Cluster, after_step, with_items}
 use Rattle.fs_serial.specs.Conclusions.{TellsItems, after_concluded}
 use Rattle.fs_serial.specs.EndedLeases.{EndsFair, IsFairAbort, asker_of, session_of_txn}
@@ -62,19 +65,35 @@ first_names (Some (vote.Ended n u a) ∷ vs) number end now h =
 first_names (Some (vote.PathsOut n) ∷ vs) number end now h = absurd (cc h)
 first_names (Some (vote.Moved prefix to) ∷ vs) number end now h = absurd (cc h)
 
-decision_names : (l : Leader) (number : LeaseNo) (end now : ℕ) → end_of_decision (decision l None) ≡ led.Ended number end now
-    → In (Some (vote.Ended number end now)) l.votes
-decision_names l number end now = by_end (first_end l.votes) refl
-  where
-    by_path : (b : Bool) → end_of_decision (cond b (deciding.by_path l None) (commit l (reply_of l.op))) ≡ led.Ended number end now
-        → In (Some (vote.Ended number end now)) l.votes
-    by_path true h = absurd (cc h)
-    by_path false h = absurd (cc h)
+-- where no vote ends it, no lease is named
+files_name_none : (l : Leader) (mode : Mode2) (on : Bool) (number : LeaseNo) (end now : ℕ)
+    → end_of_decision (by_files l mode on) ≡ led.Ended number end now → ⊥
+files_name_none l Check true number end now h = absurd (cc h)
+files_name_none l Check false number end now h = absurd (cc h)
+files_name_none l Freeze true number end now h = absurd (cc h)
+files_name_none l Freeze false number end now h = absurd (cc h)
+files_name_none l Plain true number end now h = absurd (cc h)
+files_name_none l Plain false number end now h = absurd (cc h)
 
-    by_end : (o : Option LedEnd) → first_end l.votes ≡ o → end_of_decision (unless_ended o (agreed l None)) ≡ led.Ended number end now
+path_names_none : (l : Leader) (path : Option PathAnswer) (number : LeaseNo) (end now : ℕ)
+    → end_of_decision (by_path l path) ≡ led.Ended number end now → ⊥
+path_names_none l None number end now h = absurd (cc h)
+path_names_none l (Some (Path files)) number end now h = files_name_none l l.mode (has_file files l.file) number end now h
+path_names_none l (Some (Wanted file parent)) number end now h = absurd (cc h)
+path_names_none l (Some (Frozen file txn)) number end now h = absurd (cc h)
+
+decision_names : (l : Leader) (path : Option PathAnswer) (number : LeaseNo) (end now : ℕ)
+    → end_of_decision (decision l path) ≡ led.Ended number end now → In (Some (vote.Ended number end now)) l.votes
+decision_names l path number end now = by_end (first_end l.votes) refl
+  where
+    by_need : (b : Bool) → end_of_decision (cond b (by_path l path) (commit l (reply_of l.op))) ≡ led.Ended number end now → ⊥
+    by_need true h = path_names_none l path number end now h
+    by_need false h = absurd (cc h)
+
+    by_end : (o : Option LedEnd) → first_end l.votes ≡ o → end_of_decision (unless_ended o (agreed l path)) ≡ led.Ended number end now
         → In (Some (vote.Ended number end now)) l.votes
     by_end (Some e) is h = first_names l.votes number end now (is ∙ ap Some h)
-    by_end None is h = by_path (needs_path l.mode l.op) h
+    by_end None is h = absurd (by_need (needs_path l.mode l.op) h)
 
 -- ## What is sent
 
@@ -108,18 +127,18 @@ its_answer txn d (x ∷ xs) now by e to z (inr i) = its_answer txn d xs now by e
 -- ## The step
 
 module _ (skew greatest k : ℕ) (c : Cluster) (s : Server) (at : slice_get c.servers k ≡ Some s) (h : ClusterHolds skew greatest c)
-    (f : EndsFair c) (l : Leading) (leads : leading_of l.leader.txn s.leading ≡ Some l) where
+    (f : EndsFair c) (l : Leading) (path : Option PathAnswer) (leads : leading_of l.leader.txn s.leading ≡ Some l) where
   there : In l s.leading
   there = (found (λ (z : Leading). same_txn z.leader.txn l.leader.txn) s.leading l leads).0
 
   abbrev d : Decision
-  d = decision l.leader None
+  d = decision l.leader path
 
   abbrev x : Stepped
-  x = concludes l [] s
+  x = concludes l path [] s
 
   abbrev then : Cluster
-  then = after_concluded k l s c
+  then = after_concluded k l path s c
 
   abbrev journal : List Item
   journal = c.journal ++ x.out.admitted
@@ -136,7 +155,7 @@ module _ (skew greatest k : ℕ) (c : Cluster) (s : Server) (at : slice_get c.se
   end_right number end now e =
       old_leading skew greatest k c s at h f c.in_flight c.lines x.server x.out.send journal replied later (λ y. refl) l there
       number end now
-      (decision_names l.leader number end now e)
+      (decision_names l.leader path number end now e)
 
   pub concluded_fair : EndsFair then
   concluded_fair = step_fair skew greatest k c s at h f c.in_flight c.lines x.server x.out.send journal replied (record {
@@ -190,25 +209,25 @@ IsRightStep k e c x = EndsFair (after_step k e x c) × IsFairAbort c e (after_st
 
 -- it waits, and is decided then
 module _ (skew greatest k : ℕ) (c : Cluster) (s : Server) (at : slice_get c.servers k ≡ Some s) (e : ServerEvent) (tells : TellsItems e)
-    (splits : CommitSplits) (n : ServerNote) (l : Leading) (sent : List (Peer × Msg)) (t : Server) where
+    (splits : CommitSplits) (n : ServerNote) (l : Leading) (path : Option PathAnswer) (sent : List (Peer × Msg)) (t : Server) where
   abbrev waiting : Server
   waiting = (waits n l sent t).server
 
   pub goes_on_fair : NamesNone n → session_of_txn c.servers (asker_of e) l.leader.txn ≡ Some l.leader.session
-      → ClusterHolds skew greatest (behind skew greatest k c s at e tells splits n l sent t)
-      → EndsFair (behind skew greatest k c s at e tells splits n l sent t) → IsRightStep k e c (goes_on n l sent t)
+      → ClusterHolds skew greatest (behind skew greatest k c s at e tells splits n l path sent t)
+      → EndsFair (behind skew greatest k c s at e tells splits n l path sent t) → IsRightStep k e c (goes_on n l path sent t)
   goes_on_fair none own h f = by (is_full l.leader.votes)
     where
-      by : (b : Bool) → IsRightStep k e c (cond b (concludes l sent t) (waits n l sent t))
+      by : (b : Bool) → IsRightStep k e c (cond b (concludes l path sent t) (waits n l sent t))
       by true =
-          let before : Cluster = behind skew greatest k c s at e tells splits n l sent t in
+          let before : Cluster = behind skew greatest k c s at e tells splits n l path sent t in
           let now : slice_get before.servers k ≡ Some waiting = get_here c.servers k s waiting at in
           let led : leading_of l.leader.txn waiting.leading ≡ Some l = leading_set l t.leading in
-          let last : ServerNote = end_note l.leader.txn (end_of_decision (decision l.leader None)) in
-          subst (λ (d : Cluster). EndsFair d × IsFairAbort c e d last) (same_cluster skew greatest k c s at e tells splits n l sent t) (
-            concluded_fair skew greatest k before waiting now h f l led,
-            end_noted c e (after_concluded k l waiting before) l.leader.txn l.leader.session
-                (end_of_decision (decision l.leader None)) own
-                (end_right skew greatest k before waiting now h f l led),
+          let last : ServerNote = end_note l.leader.txn (end_of_decision (decision l.leader path)) in
+          subst (λ (d : Cluster). EndsFair d × IsFairAbort c e d last) (same_cluster skew greatest k c s at e tells splits n l path sent t) (
+            concluded_fair skew greatest k before waiting now h f l path led,
+            end_noted c e (after_concluded k l path waiting before) l.leader.txn l.leader.session
+                (end_of_decision (decision l.leader path)) own
+                (end_right skew greatest k before waiting now h f l path led),
           )
       by false = (f, noted_none c e (after_step k e (waits n l sent t) c) n none)

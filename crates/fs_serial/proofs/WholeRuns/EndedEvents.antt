@@ -1,5 +1,5 @@
 -- Every event of every server keeps what is told of leases that had ended right.
-use Rattle.std.proofs.Common.{◌≡◌, ◌≤◌, ℕ, ◌+◌, max, List, [], ◌∷◌, cond, refl, sym, ap, ◌∙◌, subst, inl, inr, arith}
+use Rattle.std.proofs.Common.{◌≡◌, ◌≤◌, ℕ, ◌+◌, max, List, [], ◌∷◌, refl, sym, ap, ◌∙◌, subst, inl, inr, arith}
 use Rattle.std.specs.Prelude.{Option, Some, None, slice_get}
 use Rattle.fs_ident.specs.In.{In}
 use Rattle.fs_ident.specs.declared.actor.LeaseNo.{LeaseNo}
@@ -19,7 +19,6 @@ use Rattle.fs_msg.specs.declared.client_msg.ClientMsg.{ClientMsg}
 use Rattle.fs_msg.specs.declared.client_msg.ClientMsg.TheVariants.{Ask, Renew, Release, Ship, Lead}
 use Rattle.fs_msg.specs.declared.decide.Decide.{Decide as DecideMsg}
 use Rattle.fs_msg.specs.declared.done.Done.{Done as DoneMsg}
-use Rattle.fs_msg.specs.declared.lead.Lead.{Lead as ToLead}
 use Rattle.fs_msg.specs.declared.msg.Msg.{Msg}
 use Rattle.fs_msg.specs.declared.msg.Msg.TheVariants as msg
 use Rattle.fs_msg.specs.declared.peer_msg.PeerMsg.{PeerMsg}
@@ -29,9 +28,8 @@ use Rattle.fs_msg.specs.declared.server_note.ServerNote.{ServerNote}
 use Rattle.fs_msg.specs.declared.server_note.ServerNote.TheVariants as note
 use Rattle.fs_msg.specs.declared.voted.Voted.{Voted as VotedMsg}
 use Rattle.fs_server.specs.Counts.{done_step, done_with}
-use Rattle.fs_server.specs.Follows.{after_decision, after_vote, applies, decide_step, prepare_step, ready_of, vote_here}
-use Rattle.fs_server.specs.Leads.{lead_refusal, lead_step, leads_unless}
-use Rattle.fs_server.specs.Server.{Stepped, begun, strange, to_session}
+use Rattle.fs_server.specs.Follows.{after_decision, after_vote, applies, decide_step, prepare_step, ready_of, vote_here, votes}
+use Rattle.fs_server.specs.Server.{Stepped, begun, to_session}
 use Rattle.fs_server.specs.Step.{event_step, step}
 use Rattle.fs_server.specs.declared.event.ServerEvent.{ServerEvent}
 use Rattle.fs_server.specs.declared.event.ServerEvent.TheVariants as event
@@ -53,11 +51,11 @@ use Rattle.fs_serial.proofs.Lists.SetAt.{get_here, set_twice}
 use Rattle.fs_serial.proofs.Returns.Lapsing.{begun_at, keep, there_begun}
 use Rattle.fs_serial.proofs.Returns.Lapsing as lapsing
 use Rattle.fs_serial.proofs.Transactions.AwaitedWords.{IsAskedBy, IsAwaitedBy, asked_by, decide_awaited, done_awaited, done_is}
-use Rattle.fs_serial.proofs.Transactions.AwaitedWords.{prepare_here}
+use Rattle.fs_serial.proofs.Transactions.AwaitedWords.{prepare_awaited, prepare_here}
 use Rattle.fs_serial.proofs.Transactions.Desks.{each_after, led_set}
 use Rattle.fs_serial.proofs.Transactions.OtherSteps.{begins_stands}
 use Rattle.fs_serial.proofs.Transactions.OwnersOfLocks.{in_range}
-use Rattle.fs_serial.proofs.Transactions.PlacesAfter.{AreRelocked, relocked_not, unlocked_so, unlocked_unless, word_taken, names_there}
+use Rattle.fs_serial.proofs.Transactions.PlacesAfter.{AreRelocked, relocked_not, unlocked_so, unlocked_unless, word_taken}
 use Rattle.fs_serial.proofs.Transactions.Tables.{in_with_ending}
 use Rattle.fs_serial.proofs.Transactions.Undecided.{up_led}
 use Rattle.fs_serial.proofs.WholeRuns.EndedDecisions.{IsRightStep, noted_none}
@@ -67,8 +65,8 @@ use Rattle.fs_serial.proofs.WholeRuns.EndedStay.{RowsLater, counts_rise, ended_s
 use Rattle.fs_serial.proofs.WholeRuns.EndedSteps.{EndFair, VotesFair, event_ending, event_fair, event_leading, event_one, event_still}
 use Rattle.fs_serial.proofs.WholeRuns.EndedVotes.{vote_fair}
 use Rattle.fs_serial.proofs.WholeRuns.LedWorlds.{OnlyRows}
-use Rattle.fs_serial.proofs.WholeRuns.LedEvents.{answers_with, voted_leading, voted_rows, votes_alone}
-use Rattle.fs_serial.proofs.WholeRuns.LedQuestions.{led_there}
+use Rattle.fs_serial.proofs.Transactions.Recalled.{recalls_are, recalls_hand_nothing}
+use Rattle.fs_serial.proofs.WholeRuns.LedEvents.{voted_leading, voted_rows}
 
 -- ## The leader of a transaction
 
@@ -109,7 +107,7 @@ module _ (skew greatest k : ℕ) (c : Cluster) (s : Server) (at : slice_get c.se
     told = record { txn = m.txn; number = m.number; vote = v }
 
     abbrev x : Stepped
-    x = answers_with v from m [] s
+    x = votes v from m s
 
     abbrev then : Cluster
     then = after_step k asks x c
@@ -121,7 +119,7 @@ module _ (skew greatest k : ℕ) (c : Cluster) (s : Server) (at : slice_get c.se
     later =
         stepped_later k c then s t at h.places refl
         (parcels_then k c (without_first (is_between from k) c.in_flight) x.out.send
-        (word_taken (is_between from k) c.in_flight (record { from = from; to = k; message = peer.Prepare m }) comes refl) refl)
+        (word_taken (is_between from k) c.in_flight (record { from = from; to = k; message = peer.Prepare m }) comes refl) (recalls_hand_nothing k v s m.part))
         rows_then.given rows_then.rows
 
     -- the vote is one for the session whose operation is led
@@ -168,14 +166,14 @@ module _ (skew greatest k : ℕ) (c : Cluster) (s : Server) (at : slice_get c.se
             ∙ ap (λ (y : VotedMsg). led_in then.servers y.txn) (sym same) ∙ led in
             event_still skew greatest k c s at h f asks x later l.leader.session number end now
             (right l is number end now (ap (λ (y : VotedMsg). y.vote) (sym same) ∙ says))
-        new_vote to w (inr z) l led number end now says = absurd z
+        new_vote to w (inr z) l led number end now says = absurd (recalls_are v s m.part (OfServer to, msg.Peer (peer.Vote w)) z)
 
         no_answer : (to : Session) (z : LedEnd) → In (OfSession to, msg.Answer (answer.Led z)) x.out.send → ⊥
         no_answer to z (inl e) = let wrong : OfSession to ≡ OfServer from = ap (λ (p : Peer × Msg). p.0) e in absurd (cc wrong)
-        no_answer to z (inr y) = y
+        no_answer to z (inr y) = recalls_are v s m.part (OfSession to, msg.Answer (answer.Led z)) y
 
     pub prepared_fair : IsRightStep k asks c (prepare_step from m s)
-    prepared_fair = subst (IsRightStep k asks c) (sym (votes_alone skew greatest k c s at h from m comes))
+    prepared_fair = subst (IsRightStep k asks c) (sym (prepare_awaited k from c s at h.led m comes))
         (voted_fair_then, noted_none c asks then x.out.note (λ txn number end now e. absurd (cc e)))
 
   -- ## A decision
@@ -303,16 +301,9 @@ module _ (skew greatest k : ℕ) (c : Cluster) (s : Server) (at : slice_get c.se
   -- ## All of them
 
   module _ (within : greatest ≤ s.last + skew) where
-    asks_to_lead : (by : Session) (m : ToLead) → IsThere k (event.FromClient by (Lead m)) c
-        → IsRightStep k (event.FromClient by (Lead m)) c (lead_step by m s)
-    asks_to_lead by m there =
-        subst (λ b. IsRightStep k (event.FromClient by (Lead m)) c (cond b (leads_unless (lead_refusal s m) by m s) (strange s)))
-        (sym (led_there skew greatest k c s at h commit_splits by m there))
-        (lead_fair skew greatest k c s at h f commit_splits within by m there)
-
     client_fair : (by : Session) (m : ClientMsg) → IsThere k (event.FromClient by m) c
         → IsRightStep k (event.FromClient by m) c (event_step (event.FromClient by m) s)
-    client_fair by (Lead m) there = asks_to_lead by m there
+    client_fair by (Lead m) there = lead_fair skew greatest k c s at h f commit_splits within by m there
     client_fair by (Ask items dir) there = other_fair skew greatest k c s at h f (event.FromClient by (Ask items dir)) there tt
     client_fair by (Renew pairs) there = other_fair skew greatest k c s at h f (event.FromClient by (Renew pairs)) there tt
     client_fair by (Release pairs) there = other_fair skew greatest k c s at h f (event.FromClient by (Release pairs)) there tt
@@ -325,7 +316,7 @@ module _ (skew greatest k : ℕ) (c : Cluster) (s : Server) (at : slice_get c.se
     peer_fair from (peer.Vote m) there = voted_fair skew greatest k c s at h f commit_splits within from m there
     peer_fair from (peer.Decide m) there = decided_fair from m there
     peer_fair from (peer.Done m) there = done_fair from m there
-    peer_fair from m there = absurd (names_there k from c m h.places there)
+    peer_fair from m there = other_fair skew greatest k c s at h f (event.FromPeer from m) there refl
 
     pub begun_event_fair : (e : ServerEvent) → IsThere k e c → IsRightStep k e c (event_step e s)
     begun_event_fair (event.FromClient by m) there = client_fair by m there

@@ -18,6 +18,7 @@ use Rattle.fs_field.specs.declared.vote.Vote.TheVariants as vote
 use Rattle.fs_map.specs.Map.{server_of}
 use Rattle.fs_record.specs.declared.led_end.LedEnd.TheVariants as led
 use Rattle.fs_record.specs.declared.led_end.Why.{Why}
+use Rattle.fs_record.specs.declared.led_end.Why.TheVariants as why
 use Rattle.fs_msg.specs.declared.answer.Answer.{Answer}
 use Rattle.fs_msg.specs.declared.answer.Answer.TheVariants as answer
 use Rattle.fs_msg.specs.declared.client_msg.ClientMsg.{ClientMsg}
@@ -30,16 +31,19 @@ use Rattle.fs_msg.specs.declared.server_note.ServerNote.{ServerNote}
 use Rattle.fs_msg.specs.declared.server_note.ServerNote.TheVariants as note
 use Rattle.fs_msg.specs.declared.voted.Voted.{Voted as VotedMsg}
 use Rattle.fs_server.specs.Begins.{Round, first_round, leader_with, parts_in, round_of, rounds, txn_of}
-use Rattle.fs_server.specs.Concludes.{waits}
+use Rattle.fs_server.specs.Concludes.{goes_on, path_for, waits}
 use Rattle.fs_server.specs.Counts.{after_own_vote, ask_for, asked_at, comes_home, counts, counts_own, seeks, sent_on, vote_step, voted}
 use Rattle.fs_server.specs.Counts.{with_vote}
 use Rattle.fs_server.specs.Follows.{recalls_for, to_server, vote_here}
-use Rattle.fs_server.specs.Leads.{lead_refusal, leads_unless, mode_of, refuses}
+use Rattle.fs_server.specs.Leads.{lead_step, refuses}
 use Rattle.fs_server.specs.LeadingLaws.{CommitSplits}
+use Rattle.fs_server.specs.Laws.{BeginsIn}
 use Rattle.fs_server.specs.Server.{Stepped, is_mine, to_session}
 use Rattle.fs_server.specs.declared.event.ServerEvent.{ServerEvent}
 use Rattle.fs_server.specs.declared.event.ServerEvent.TheVariants as event
 use Rattle.fs_server.specs.declared.state.Server.{Server}
+use Rattle.fs_server.specs.PathsHere.{asks_nobody, asks_up, with_asking}
+use Rattle.fs_server.proofs.Leading.{LeadEnds, begun, kept, lead_ends, put_off, unled, wanted}
 use Rattle.fs_txn.specs.Leading.{leading_of}
 use Rattle.fs_txn.specs.Votes.{Votes, is_moved, votes_after}
 use Rattle.fs_txn.specs.declared.leading.Leading.{Leading}
@@ -67,13 +71,14 @@ use Rattle.fs_serial.proofs.WholeRuns.EndedStay.{RowsLater, stepped_later}
 use Rattle.fs_serial.proofs.WholeRuns.EndedSteps.{VotesFair, event_ending, event_fair, event_leading, event_one, event_still}
 use Rattle.fs_serial.proofs.WholeRuns.EndedVotes.{rounds_said, vote_fair}
 use Rattle.fs_serial.proofs.WholeRuns.LedQuestions as questions
-use Rattle.fs_serial.proofs.WholeRuns.LedQuestions.{asks, begun, rounds_relock}
+use Rattle.fs_serial.proofs.WholeRuns.LedQuestions.{asks, rounds_relock}
 use Rattle.fs_serial.proofs.WholeRuns.LedVotes.{counted_waits, own_waits, q}
 
 -- ## What is asked for
 
--- the message asks a server for a part, or for a path lease back
+-- the message asks a server for a part, or for a path lease, or for one back
 abbrev pub IsAsk : Peer × Msg → Type 0
+IsAsk (OfServer to, msg.Peer (peer.PathAsk file dir)) = Unit {0}
 IsAsk (OfServer to, msg.Peer (peer.Prepare m)) = Unit {0}
 IsAsk (OfServer to, msg.Peer (peer.PathRecall number)) = Unit {0}
 IsAsk m = ⊥
@@ -89,6 +94,26 @@ recall_asks m is = absurd is
 
 recalls_ask : (v : Vote) (s : Server) (p : Part) (m : Peer × Msg) → In m (recalls_for v s p) → IsAsk m
 recalls_ask v s p m i = recall_asks m (recalls_are v s p m i)
+
+-- it is asked for, unless it was
+up_asks : (top dir : List ℕ) (s : Server) (m : Peer × Msg) → In m (asks_up top dir s) → IsAsk m
+up_asks top dir s m = by (asks_nobody top dir s)
+  where
+    ask : List (Peer × Msg)
+    ask = to_server (server_of s.map dir) (peer.PathAsk top dir) ∷ []
+
+    by : (b : Bool) → In m (cond b [] ask) → IsAsk m
+    by true i = absurd i
+    by false (inl e) = subst IsAsk (sym e) tt
+    by false (inr z) = absurd z
+
+up_hands_nothing : (k : ℕ) (top dir : List ℕ) (s : Server) → parcels_of (in_flight_from k (asks_up top dir s)) ≡ []
+up_hands_nothing k top dir s = by (asks_nobody top dir s)
+  where
+    by : (b : Bool)
+        → parcels_of (in_flight_from k (cond b [] (to_server (server_of s.map dir) (peer.PathAsk top dir) ∷ []))) ≡ []
+    by true = refl
+    by false = refl
 
 rounds_asks : (txn : TxnNo) (number : ℕ) (by : Session) (ps : List Part) (r : Round) → ((m : Peer × Msg) → In m r.send → IsAsk m)
     → (m : Peer × Msg) → In m (rounds txn number by ps r).send → IsAsk m
@@ -178,49 +203,11 @@ module _ (skew greatest k : ℕ) (c : Cluster) (s : Server) (at : slice_get c.se
     abbrev asking : ServerEvent
     asking = event.FromClient by (Lead m)
 
-    abbrev mode : Mode2
-    mode = mode_of m.op m.kind
-
-    abbrev r : Round
-    r = round_of mode by m s
-
-    abbrev begins : Leading
-    begins = record { leader = leader_with mode (txn_of s) by m r.votes; at = r.at }
-
     up : (ends_in c by).up ≡ Lead m ∷ []
     up = up_asked skew greatest c s here h by k m comes
 
     asked : IsToBeLed (c.lines by).client.led m
     asked = to_lead greatest (world_of s c) by m up (h.parts s here).0
-
-    begun_votes : VotesFair c by r.votes
-    begun_votes number end now i =
-        elim (rounds_said s (txn_of s) 0 by (parts_in mode m) (first_round s) (λ p. refl) (vote.Ended number end now) i) as
-        (λ _. WasEnded c by number end now) [
-          | inl z ↦ absurd z
-          | inr p ↦
-              vote_fair skew greatest k c s at h by asked.led
-              (up ∙ ap (λ (x : ToLead). let xs : List ClientMsg = Lead x ∷ [] in xs) asked.told)
-              asked.is within mode p.0 (subst (λ (x : ToLead). In p.0 (parts_in mode x)) asked.told p.1.0) number end now p.1.1
-        ]
-
-    begun_waits : OnlyWaits asking (note.Prepares (txn_of s)) begins r.send r.server
-    begun_waits =
-        let left = questions.left skew greatest k c s at h splits by m comes in
-        record {
-          rows = rounds_relock (txn_of s) 0 by (parts_in mode m) (first_round s) s.rows (relocked_not s.rows);
-          given = ap (λ (z : Server). z.given) left;
-          leading = ap (λ (z : Server). z.leading) left;
-          ending = ap (λ (z : Server). z.ending) left;
-          parcels = refl;
-          none = (asks skew greatest k c s at h splits by m comes).1.0;
-          asks = rounds_asks (txn_of s) 0 by (parts_in mode m) (first_round s) (λ x z. absurd z);
-          votes = begun_votes;
-          session = λ o i same.
-              let few = (h.led.leading s here o i).begun in
-              let count : s.txns + 1 ≡ o.leader.txn.count = ap (λ (u : TxnNo). u.count) same in
-              absurd (omega (arith, few, count));
-        }
 
     -- no transaction of its number is led before, so it is of the session that asks
     begun_own : session_of_txn c.servers (asker_of asking) (txn_of s) ≡ Some by
@@ -237,39 +224,101 @@ module _ (skew greatest k : ℕ) (c : Cluster) (s : Server) (at : slice_get c.se
             let count : o.leader.txn.count ≡ s.txns + 1 = ap (λ (u : TxnNo). u.count) (txn_is o.leader.txn (txn_of s) q.1) in
             absurd (omega (arith, few, count))
 
-    refused : (w : Why) → IsRightStep k asking c (refuses by w s)
-    refused w =
-        let x : Stepped = refuses by w s in
+    module _ (mode : Mode2) where
+      abbrev r : Round
+      r = round_of mode by m s
+
+      abbrev begins : Leading
+      begins = record { leader = leader_with mode (txn_of s) by m r.votes; at = r.at }
+
+      begun_votes : VotesFair c by r.votes
+      begun_votes number end now i =
+          elim (rounds_said s (txn_of s) 0 by (parts_in mode m) (first_round s) (λ p. refl) (vote.Ended number end now) i) as
+          (λ _. WasEnded c by number end now) [
+            | inl z ↦ absurd z
+            | inr p ↦
+                vote_fair skew greatest k c s at h by asked.led
+                (up ∙ ap (λ (x : ToLead). let xs : List ClientMsg = Lead x ∷ [] in xs) asked.told)
+                asked.is within mode p.0 (subst (λ (x : ToLead). In p.0 (parts_in mode x)) asked.told p.1.0) number end now p.1.1
+          ]
+
+      begun_waits : OnlyWaits asking (note.Prepares (txn_of s)) begins r.send r.server
+      begun_waits =
+          let left = questions.left skew greatest k c s at h splits by m comes mode in
+          record {
+            rows = rounds_relock (txn_of s) 0 by (parts_in mode m) (first_round s) s.rows (relocked_not s.rows);
+            given = ap (λ (z : Server). z.given) left;
+            leading = ap (λ (z : Server). z.leading) left;
+            ending = ap (λ (z : Server). z.ending) left;
+            parcels = refl;
+            none = (asks skew greatest k c s at h splits by m comes mode).1.0;
+            asks = rounds_asks (txn_of s) 0 by (parts_in mode m) (first_round s) (λ x z. absurd z);
+            votes = begun_votes;
+            session = λ o i same.
+                let few = (h.led.leading s here o i).begun in
+                let count : s.txns + 1 ≡ o.leader.txn.count = ap (λ (u : TxnNo). u.count) same in
+                absurd (omega (arith, few, count));
+          }
+
+      begun_fair : BeginsIn m s mode → IsRightStep k asking c (goes_on (note.Prepares (txn_of s)) begins (path_for mode m.op s) r.send r.server)
+      begun_fair b =
+          goes_on_fair skew greatest k c s at asking (λ items replied. refl) splits (note.Prepares (txn_of s)) begins (path_for mode m.op s)
+          r.send r.server (λ txn number end now e. absurd (cc e)) begun_own (questions.begins skew greatest k c s at h splits by m comes mode b).0
+          (waits_fair asking (note.Prepares (txn_of s)) begins r.send r.server begun_waits)
+
+    -- it is put off, and some are asked for more
+    abbrev puts_off : Why → Server → List (Peer × Msg) → Stepped
+    puts_off w t ms = record {
+      server = t;
+      out = record { note = note.Refuses w; send = to_session by (answer.Led (led.Again w)) ∷ ms; admitted = [] };
+    }
+
+    put_off_fair : (w : Why) (t : Server) (ms : List (Peer × Msg)) → t.rows ≡ s.rows → t.given ≡ s.given → t.leading ≡ s.leading
+        → t.ending ≡ s.ending → parcels_of (in_flight_from k ms) ≡ [] → ((x : Peer × Msg) → In x ms → IsAsk x)
+        → IsRightStep k asking c (puts_off w t ms)
+    put_off_fair w t ms rows given leading ending none asks =
+        let x : Stepped = puts_off w t ms in
         let later : RowsLater c (after_step k asking x c) =
-        stepped_later k c (after_step k asking x c) s s at h.places refl (parcels_then k c c.in_flight x.out.send refl refl) refl
-        (relocked_not s.rows) in (
+        stepped_later k c (after_step k asking x c) s t at h.places refl (parcels_then k c c.in_flight x.out.send refl none) given
+        (subst (AreRelocked s.rows) (sym rows) (relocked_not s.rows)) in (
           event_fair skew greatest k c s at h f asking x (record {
             later = later;
-            leading = event_leading skew greatest k c s at h f asking x later;
-            before = event_one skew greatest k c s at h f asking x;
-            ending = event_ending skew greatest k c s at h f asking x later;
-            votes = λ to v i. absurd (answer_votes by (answer.Led (led.Again w)) to v i);
+            leading = λ l i. event_leading skew greatest k c s at h f asking x later l (subst (In l) leading i);
+            before = λ l o i. event_one skew greatest k c s at h f asking x l o (subst (In l) leading i);
+            ending = λ y i. event_ending skew greatest k c s at h f asking x later y (subst (In y) ending i);
+            votes = λ to v i. elim i as (λ _. (l : Leading) → led_in (after_step k asking x c).servers v.txn ≡ Some l
+                → (number : LeaseNo) (end now : ℕ) → v.vote ≡ vote.Ended number end now
+                → WasEnded (after_step k asking x c) l.leader.session number end now) [
+                  | inl e ↦ absurd (answer_votes by (answer.Led (led.Again w)) to v (inl e))
+                  | inr j ↦ absurd (asks (OfServer to, msg.Peer (peer.Vote v)) j)
+                ];
             answers = λ to z i number end now ends. elim i as (λ _. WasEnded (after_step k asking x c) to number end now) [
               | inl e ↦
                   let word : msg.Answer (answer.Led z) ≡ msg.Answer (answer.Led (led.Again w)) = ap (λ (p : Peer × Msg). p.1) e in
                   let same : z ≡ led.Again w = cc in
                   let wrong : led.Ended number end now ≡ led.Again w = sym ends ∙ same in
                   absurd (cc wrong)
-              | inr y ↦ absurd y
+              | inr j ↦ absurd (asks (OfSession to, msg.Answer (answer.Led z)) j)
             ];
           }),
           noted_none c asking (after_step k asking x c) x.out.note (λ txn number end now e. absurd (cc e)),
         )
 
-    pub lead_fair : IsRightStep k asking c (leads_unless (lead_refusal s m) by m s)
-    lead_fair = by_refusal (lead_refusal s m) refl
-      where
-        by_refusal : (o : Option Why) → lead_refusal s m ≡ o → IsRightStep k asking c (leads_unless o by m s)
-        by_refusal None accepted =
-            goes_on_fair skew greatest k c s at asking (λ items replied. refl) splits (note.Prepares (txn_of s)) begins r.send r.server
-            (λ txn number end now e. absurd (cc e)) begun_own (begun skew greatest k c s at h splits by m comes accepted)
-            (waits_fair asking (note.Prepares (txn_of s)) begins r.send r.server begun_waits)
-        by_refusal (Some w) why = refused w
+    refused : (w : Why) → IsRightStep k asking c (refuses by w s)
+    refused w = put_off_fair w s [] refl refl refl refl refl (λ x z. absurd z)
+
+    by_end : (x : Stepped) → LeadEnds by m s x → IsRightStep k asking c x
+    by_end x (unled l) =
+        let wrong : true ≡ false = sym (questions.led_there skew greatest k c s at h splits by m comes) ∙ l in absurd (cc wrong)
+    by_end x (put_off w l o) = refused w
+    by_end x (wanted top dir l o) =
+        put_off_fair (why.Wanted top) (with_asking top s) (asks_up top dir s) refl refl refl refl (up_hands_nothing k top dir s)
+        (up_asks top dir s)
+    by_end x (kept file txn l o) = refused (why.Frozen file txn)
+    by_end x (begun mode l b) = begun_fair mode b
+
+    pub lead_fair : IsRightStep k asking c (lead_step by m s)
+    lead_fair = by_end (lead_step by m s) (lead_ends by m s)
 
   -- ## A vote
 
@@ -335,8 +384,8 @@ module _ (skew greatest k : ℕ) (c : Cluster) (s : Server) (at : slice_get c.se
     counted : is_moved m.vote ≡ false → IsRightStep k voting c (counts m.number m.vote l s)
     counted stays =
         goes_on_fair skew greatest k c s at voting (λ items replied. refl) splits (note.Waits l.leader.txn)
-        (with_vote m.number m.vote l) [] s
-        (λ txn number end now e. absurd (cc e)) voted_own (counted_waits skew greatest k c s at h splits from m comes stays)
+        (with_vote m.number m.vote l) (path_for l.leader.mode l.leader.op s) [] s
+        (λ txn number end now e. absurd (cc e)) voted_own (counted_waits skew greatest k c s at h splits from m comes stays).0
         (only_waits (note.Waits l.leader.txn) (votes_after l.leader.votes m.number m.vote) l.at [] s (relocked_not s.rows)
         refl refl refl refl
         (λ x z. absurd z)
@@ -365,8 +414,9 @@ module _ (skew greatest k : ℕ) (c : Cluster) (s : Server) (at : slice_get c.se
       own : is_mine s p.file ≡ true → IsRightStep k voting c (counts_own m.number p own_vote l s)
       own mine =
           goes_on_fair skew greatest k c s at voting (λ items replied. refl) splits (note.Waits l.leader.txn)
-          (with_vote m.number own_vote (asked_at m.number s.me l)) (recalls_for own_vote s p) (after_own_vote l.leader.txn p own_vote s)
-          (λ txn number end now e. absurd (cc e)) voted_own (own_waits skew greatest k c s at h splits from m comes p part moved mine)
+          (with_vote m.number own_vote (asked_at m.number s.me l)) (path_for l.leader.mode l.leader.op s) (recalls_for own_vote s p)
+          (after_own_vote l.leader.txn p own_vote s)
+          (λ txn number end now e. absurd (cc e)) voted_own (own_waits skew greatest k c s at h splits from m comes p part moved mine).0
           (only_waits (note.Waits l.leader.txn) (votes_after l.leader.votes m.number own_vote) (slice_set l.at m.number s.me)
           (recalls_for own_vote s p) (after_own_vote l.leader.txn p own_vote s) (voted_so own_vote l.leader.txn p.uses s.rows) refl refl
           refl (recalls_hand_nothing k own_vote s p) (recalls_ask own_vote s p)

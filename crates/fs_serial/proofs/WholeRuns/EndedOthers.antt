@@ -25,7 +25,7 @@ use Rattle.fs_record.specs.Effects.{tells_its_effects}
 use Rattle.fs_record.specs.declared.led_end.LedEnd.{LedEnd}
 use Rattle.fs_record.specs.declared.parcel.Parcel.{Parcel}
 use Rattle.fs_server.specs.Asks.{asked_in, recalls_at}
-use Rattle.fs_server.specs.Moves.{fits_here, installed, move_at, parcel_at}
+use Rattle.fs_server.specs.Moves.{fits_here, installed, move_at, parcel_at, peer_step}
 use Rattle.fs_server.specs.Pairs.{numbers_in, pairs_here}
 use Rattle.fs_server.specs.Reaps.{lapsed_in, reap_from, recalls_for, turn_over, turn_step}
 use Rattle.fs_server.specs.Server.{Stepped, end_of, only_noted, strange, to_session}
@@ -37,7 +37,6 @@ use Rattle.fs_server.specs.declared.state.Server.{Server}
 use Rattle.fs_server.proofs.OneByOne.{reaps_leave}
 use Rattle.fs_txn.specs.Stages.{Told}
 use Rattle.fs_txn.specs.Stages.Word.{Voted}
-use Rattle.fs_serial.proofs.Transactions.PlacesAfter.{names_there}
 use Rattle.fs_serial.specs.Cluster.{Cluster, InFlight, IsThere, after_step, in_flight_from, is_with}
 use Rattle.fs_serial.specs.EndedLeases.{EndsFair}
 use Rattle.fs_serial.specs.Leading.{LeavesLed}
@@ -50,6 +49,7 @@ use Rattle.fs_serial.proofs.ClientMessages.Sending.{IsRecallTo, recall_all, reca
 use Rattle.fs_serial.proofs.Lists.Counting.{given_by}
 use Rattle.fs_serial.proofs.Lists.SetAt.{get_here}
 use Rattle.fs_serial.proofs.Lists.Traffic.{messages}
+use Rattle.fs_serial.specs.PathLaws.{IsPathMessage}
 use Rattle.fs_serial.proofs.Moves.Arriving.{arriving_same}
 use Rattle.fs_serial.proofs.Moves.Leaving.{move_same}
 use Rattle.fs_serial.proofs.Moves.PathSteps.{ArePathSends, IsPathNote, each_message, refusal_here, refused, sent_path}
@@ -59,7 +59,7 @@ use Rattle.fs_serial.proofs.OtherSessions.Older.{IsLater, later_itself}
 use Rattle.fs_serial.proofs.Replies.Knowing.{In-filter_map}
 use Rattle.fs_serial.proofs.Returns.LaterSteps.{released_later, renewed_later}
 use Rattle.fs_serial.proofs.Returns.ServerTurn.{later_reaped}
-use Rattle.fs_serial.proofs.Transactions.OtherEvents.{other_leaves, parcel_fits}
+use Rattle.fs_serial.proofs.Transactions.OtherEvents.{other_leaves, parcel_fits, path_same}
 use Rattle.fs_serial.proofs.Transactions.StandsAfter.{view}
 use Rattle.fs_serial.proofs.WholeRuns.Addressing.{recall_free}
 use Rattle.fs_serial.proofs.WholeRuns.EndedDecisions.{IsRightStep, NamesNone, noted_none}
@@ -300,6 +300,14 @@ module _ (skew greatest k : ℕ) (c : Cluster) (s : Server) (at : slice_get c.se
       same_later c (after_step k e (event_step e s) c) (move_same k c s prefix to at h.places).0
       (rises (event_step e s).server (move_given (refusal_here prefix to s) prefix to s))
 
+  path_later : (from : ℕ) (m : PeerMsg) → IsPathMessage m → IsThere k (event.FromPeer from m) c
+      → RowsLater c (after_step k (event.FromPeer from m) (event_step (event.FromPeer from m) s) c)
+  path_later from m is there =
+      let given : (peer_step from m s).server.given ≡ s.given =
+      each_message (λ (x : Stepped). x.server.given ≡ s.given) s (λ n ms paths asking given noted sent. refl) from m is in
+      same_later c (after_step k (event.FromPeer from m) (peer_step from m s) c) (path_same skew greatest k c s at h from m is there).0
+      (rises (peer_step from m s).server given)
+
   pub other_later : (e : ServerEvent) → IsThere k e c → IsNoneOfLed e → RowsLater c (after_step k e (event_step e s) c)
   other_later (event.FromClient by (Ask items dir)) there none = asked_later by (Ask items dir) there tt
   other_later (event.FromClient by (Renew pairs)) there none = asked_later by (Renew pairs) there tt
@@ -311,7 +319,7 @@ module _ (skew greatest k : ℕ) (c : Cluster) (s : Server) (at : slice_get c.se
   other_later (event.FromPeer from (peer.Vote m)) there none = absurd (cc none)
   other_later (event.FromPeer from (peer.Decide m)) there none = absurd (cc none)
   other_later (event.FromPeer from (peer.Done m)) there none = absurd (cc none)
-  other_later (event.FromPeer from m) there none = absurd (names_there k from c m h.places there)
+  other_later (event.FromPeer from m) there none = path_later from m tt there
   other_later event.Turn there none =
       seen_later event.Turn (turn_step s) (turn_over (lapsed_in s) (with_all s c)) (turn_same k c s at h.places)
       (turn_later (counts_of c.servers) (lapsed_in s) (with_all s c))

@@ -17,8 +17,8 @@ use Rattle.fs_serial.specs.Cluster.ClientEvent.{Hears}
 use Rattle.fs_serial.specs.EndedLeases.{EndsFair, IsFairAbort, WasEnded}
 use Rattle.fs_serial.specs.Runs.{Dated, IsRun, run}
 use Rattle.fs_serial.specs.Seen.{ClusterHolds}
-use Rattle.fs_serial.proofs.Transactions.FirstStands.{first_stands}
-use Rattle.fs_serial.proofs.WholeRuns.ClusterRuns.{all_keep}
+use Rattle.fs_serial.specs.Whole.{ClusterStands}
+use Rattle.fs_serial.proofs.WholeRuns.ClusterRuns.{all_keep, first_all}
 use Rattle.fs_serial.proofs.WholeRuns.EndedClients.{client_keeps_fair}
 use Rattle.fs_serial.proofs.WholeRuns.EndedEvents.{server_keeps_fair}
 use Rattle.fs_serial.proofs.WholeRuns.EventsKeep.{EventsKeep, runs_keep}
@@ -75,27 +75,27 @@ abbrev fair_keep : ℕ → EventsKeep
 fair_keep skew =
     let all : EventsKeep = all_keep skew in
     record {
-      Holds = λ greatest c. ClusterHolds skew greatest c × EndsFair c;
+      Holds = λ greatest c. ClusterStands skew greatest c × EndsFair c;
       Within = all.Within;
       later = λ greatest later c rises h. (all.later greatest later c rises h.0, h.1);
       clock = λ greatest s c i h. all.clock greatest s c i h.0;
       server = λ greatest now k e s c at clock within there h. (
         all.server greatest now k e s c at clock within there h.0,
         server_fair skew (max greatest now) now k e s c at (omega (arith, clock)) (omega (arith, within)) there
-            (all.later greatest (max greatest now) c (omega arith) h.0) h.1,
+            (all.later greatest (max greatest now) c (omega arith) h.0).holds h.1,
       );
       client = λ greatest now c by h e can within.
-          (all.client greatest now c by h.0 e can within, client_keeps_fair skew greatest now c by h.0 h.1 e can);
+          (all.client greatest now c by h.0 e can within, client_keeps_fair skew greatest now c by h.0.holds h.1 e can);
       Comes = all.Comes;
       next = all.next;
     }
 
-pub run_fair : (skew greatest : ℕ) (es : List Dated) (c : Cluster) → ClusterHolds skew greatest c → EndsFair c → IsRun skew greatest es c
+pub run_fair : (skew greatest : ℕ) (es : List Dated) (c : Cluster) → ClusterStands skew greatest c → EndsFair c → IsRun skew greatest es c
     → EndsFair (run es c)
-run_fair skew greatest es c h f r = (runs_keep (fair_keep skew) greatest es c (h, f) r).1
+run_fair skew greatest es c w f r = (runs_keep (fair_keep skew) greatest es c (w, f) r).1
 
 -- from the start on
 pub all_fair : (servers skew term : ℕ) (es : List Dated) → 1 ≤ servers → IsRun skew 0 es (first_cluster servers skew term)
     → EndsFair (run es (first_cluster servers skew term))
 all_fair servers skew term es some r =
-    run_fair skew 0 es (first_cluster servers skew term) (first_stands servers skew term 0 some) (first_fair servers skew term) r
+    run_fair skew 0 es (first_cluster servers skew term) (first_all servers skew term 0 some) (first_fair servers skew term) r

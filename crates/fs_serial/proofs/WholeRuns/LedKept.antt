@@ -9,6 +9,7 @@ use Rattle.fs_field.specs.Table.{is_ordered, same_txn}
 use Rattle.fs_field.specs.declared.used.Part.{Part}
 use Rattle.fs_field.specs.declared.vote.Vote.{Vote}
 use Rattle.fs_field.specs.declared.vote.Vote.TheVariants.{Moved}
+use Rattle.fs_field.specs.declared.path.PathAnswer.{PathAnswer}
 use Rattle.fs_model.specs.declared.op.Op.{Op}
 use Rattle.fs_model.specs.declared.op.Op.TheVariants as op
 use Rattle.fs_model.specs.declared.reply.Reply.{Reply}
@@ -31,25 +32,25 @@ use Rattle.fs_server.specs.Begins.{Round, leader_with, round_of, txn_of}
 use Rattle.fs_server.specs.Concludes.{waits}
 use Rattle.fs_server.specs.Counts.{after_own_vote, asked_at, done_step, seeks, with_vote}
 use Rattle.fs_server.specs.Follows.{decide_step, prepare_step, recalls_for, vote_here}
-use Rattle.fs_server.specs.Leads.{is_led, lead_refusal, mode_of}
+use Rattle.fs_server.specs.Leads.{is_led}
+use Rattle.fs_server.specs.Laws.{BeginsIn}
 use Rattle.fs_server.specs.Server.{Stepped, is_mine}
 use Rattle.fs_server.specs.declared.event.ServerEvent.TheVariants as event
 use Rattle.fs_server.specs.declared.state.Server.{Server}
-use Rattle.fs_server.proofs.Leading.{none_refuses}
 use Rattle.fs_txn.specs.Leading.{leading_of}
 use Rattle.fs_txn.specs.Votes.{awaits, is_full, is_moved}
-use Rattle.fs_txn.specs.Deciding.{first_end}
 use Rattle.fs_txn.specs.declared.leading.Leading.{Leading}
 use Rattle.fs_txn.specs.declared.mode.Mode2.{Mode2}
 use Rattle.fs_serial.specs.Cluster.{Cluster, IsThere, after_step, is_with}
-use Rattle.fs_serial.specs.Conclusions.{after_concluded}
+use Rattle.fs_serial.specs.Conclusions.{TellsCycles, after_concluded}
 use Rattle.fs_serial.specs.Exchange.{IsQuestion, IsToBeLed, OneExchange, asked_server, server_of_question}
-use Rattle.fs_serial.specs.Leading.{IsLeading, IsLedBy, LedHolds}
+use Rattle.fs_serial.specs.Leading.{IsLeading, IsLedBy, IsMode, LedHolds}
 use Rattle.fs_serial.specs.Owed.{ends_in}
 use Rattle.fs_serial.specs.Seen.{ClusterHolds}
 use Rattle.fs_serial.proofs.DecidedEffects.ConcludedTold.{concluded_few, told_new}
 use Rattle.fs_serial.proofs.DecidedEffects.OwnApart.{one_each}
 use Rattle.fs_serial.proofs.Transactions.AwaitedWords.{decide_awaited, prepare_awaited}
+use Rattle.fs_serial.proofs.Transactions.Agreements.{begun_home, mode_begun}
 use Rattle.fs_serial.proofs.Transactions.HomeVotes.{begun_plain}
 use Rattle.fs_serial.proofs.Transactions.LedBegun.{led_begun}
 use Rattle.fs_serial.proofs.Transactions.LedConcluded.{led_concluded}
@@ -59,7 +60,6 @@ use Rattle.fs_serial.proofs.Transactions.LedDone.{led_done}
 use Rattle.fs_serial.proofs.Transactions.LedPrepared.{OneEach, led_prepared}
 use Rattle.fs_serial.proofs.Transactions.OneOwner.{none_its, only_its}
 use Rattle.fs_serial.proofs.Transactions.Undecided.{up_asked}
-use Rattle.fs_serial.proofs.Transactions.PartsApart.{mode_needs_none}
 use Rattle.fs_serial.proofs.Transactions.YesesStand.{session_stands}
 
 -- what comes of a server's event of a transaction, or of its decision, is as all that holds of transactions has it
@@ -87,13 +87,12 @@ pub record KeepLed (k : ℕ) (c : Cluster) (s : Server) : Type 0 where
       → LedHolds (after_step k (event.FromPeer from (peer.Vote m)) (seeks m.number to p l s) c)
   pub done : (from : ℕ) (m : DoneMsg) → IsThere k (event.FromPeer from (peer.Done m)) c
       → LedHolds (after_step k (event.FromPeer from (peer.Done m)) (done_step m s) c)
-  pub begun : (by : Session) (m : ToLead) → IsThere k (event.FromClient by (Lead m)) c → lead_refusal s m ≡ None
-      → let mode : Mode2 = mode_of m.op m.kind in
-      let r : Round = round_of mode by m s in
+  pub begun : (by : Session) (m : ToLead) → IsThere k (event.FromClient by (Lead m)) c → (mode : Mode2) → BeginsIn m s mode
+      → let r : Round = round_of mode by m s in
       LedHolds (after_step k (event.FromClient by (Lead m))
       (waits (note.Prepares (txn_of s)) (record { leader = leader_with mode (txn_of s) by m r.votes; at = r.at }) r.send r.server) c)
-  pub concluded : (l : Leading) → leading_of l.leader.txn s.leading ≡ Some l → is_full l.leader.votes ≡ true
-      → LedHolds (after_concluded k l s c)
+  pub concluded : (l : Leading) (path : Option PathAnswer) → TellsCycles c l path → leading_of l.leader.txn s.leading ≡ Some l
+      → is_full l.leader.votes ≡ true → LedHolds (after_concluded k l path s c)
 
 -- a vote that the file is elsewhere tells where it is
 moved_where : (v : Vote) → is_moved v ≡ true → (prefix : List ℕ) × ((to : ℕ) × (v ≡ Moved prefix to))
@@ -160,10 +159,10 @@ module _ (skew greatest k : ℕ) (c : Cluster) (s : Server) (at : slice_get c.se
         ∙ led_op of_led.led.entry.op of_led.led.entry.reply (session_stands k skew greatest c s at h l there of_led.led
         (subst (λ n. IsLedBy c.lines l.leader.session n of_led.led) me of_led.client)).leads
 
-    concluded : is_full l.leader.votes ≡ true → LedHolds (after_concluded k l s c)
-    concluded full =
-        led_concluded k c s at h.led me l leads full is_its (concluded_few k skew greatest c s at h l there)
-        (λ n i e j. told_new k skew greatest c s at h l there n i e j (first_end l.leader.votes) refl)
+    concluded : (path : Option PathAnswer) → TellsCycles c l path → is_full l.leader.votes ≡ true → LedHolds (after_concluded k l path s c)
+    concluded path tells full =
+        led_concluded k c s at h.led me l path leads full is_its (concluded_few k skew greatest c s at h l there path tells)
+        (told_new k skew greatest c s at h l there path tells)
 
   own : (from : ℕ) (m : VotedMsg) → IsThere k (event.FromPeer from (peer.Vote m)) c → (l : Leading) (p : Part) (n : ServerNote)
       → leading_of m.txn s.leading ≡ Some l → awaits l.leader m.number ≡ true → is_moved m.vote ≡ true
@@ -185,7 +184,7 @@ module _ (skew greatest k : ℕ) (c : Cluster) (s : Server) (at : slice_get c.se
       let q = moved_where m.vote moved in
       led_sought k from c s at h.led me m l comes leads p part q.0 q.1.0 to q.1.1 off
 
-  module _ (by : Session) (m : ToLead) (comes : IsThere k (event.FromClient by (Lead m)) c) (accepted : lead_refusal s m ≡ None) where
+  module _ (by : Session) (m : ToLead) (comes : IsThere k (event.FromClient by (Lead m)) c) where
     up : (ends_in c by).up ≡ Lead m ∷ []
     up = up_asked skew greatest c s here h by k m comes
 
@@ -200,15 +199,15 @@ module _ (skew greatest k : ℕ) (c : Cluster) (s : Server) (at : slice_get c.se
           ((h.addressed by).up (k, Lead m) (found (is_with k) (c.lines by).up (k, Lead m) comes).0);
     }
 
-    begun : let mode : Mode2 = mode_of m.op m.kind in
-        let r : Round = round_of mode by m s in
+    begun : (mode : Mode2) → BeginsIn m s mode
+        → let r : Round = round_of mode by m s in
         LedHolds (after_step k (event.FromClient by (Lead m))
         (waits (note.Prepares (txn_of s)) (record { leader = leader_with mode (txn_of s) by m r.votes; at = r.at }) r.send r.server) c)
-    begun =
-        led_begun (mode_of m.op m.kind) k c s at by m h.led me h.places.numbered ordered (none_its c h.led k s at one by m comes) asked.led
-        waits_here asked.told accepted
-        (begun_plain (mode_of m.op m.kind) k skew greatest c s at h by m asked.led comes asked.is accepted)
-        (mode_needs_none m s (none_refuses s m accepted).1)
+    begun mode begins =
+        led_begun mode k c s at by m h.led me h.places.numbered ordered (none_its c h.led k s at one by m comes) asked.led
+        waits_here asked.told (begun_home m s mode begins)
+        (begun_plain k skew greatest c s at h by m asked.led comes asked.is mode begins)
+        (subst (λ (x : ToLead). IsMode mode x.kind m.op) asked.told (mode_begun m s mode begins))
 
   pub all_keep_led : KeepLed k c s
   all_keep_led = record {
@@ -219,5 +218,5 @@ module _ (skew greatest k : ℕ) (c : Cluster) (s : Server) (at : slice_get c.se
     sought = sought;
     done = λ from m comes. led_done k from c s at h.led me m comes;
     begun = begun;
-    concluded = concluded;
+    concluded = λ l path tells leads full. concluded l leads path tells full;
   }

@@ -1,6 +1,6 @@
 -- A server took a step in which rows are only locked and unlocked and nothing is decided: all that holds of the cluster holds then.
 use Rattle.std.proofs.Common.{◌≡◌, ◌≤◌, ℕ, List, [], ◌∷◌, ◌++◌, map, append-nil, refl, sym, ap, ap₂, ◌∙◌, subst}
-use Rattle.std.specs.Prelude.{Bool, Some, is_some, length, slice_get, slice_set}
+use Rattle.std.specs.Prelude.{Bool, Some, is_some, length, slice_get, slice_set, Option}
 use Rattle.std.specs.FinMap.{empty, get}
 use Rattle.std.specs.List.{find}
 use Rattle.std.proofs.lemmas.Grind.{flat_map-append}
@@ -10,13 +10,18 @@ use Rattle.fs_ident.specs.declared.actor.Peer.{Peer}
 use Rattle.fs_ident.specs.declared.actor.Session.{Session}
 use Rattle.fs_ident.proofs.Standing.{In-got}
 use Rattle.fs_field.specs.declared.row.Row.{Row}
+use Rattle.fs_field.specs.declared.path.PathAnswer.{PathAnswer}
 use Rattle.fs_msg.specs.declared.msg.Msg.{Msg}
+use Rattle.fs_model.specs.Asking.{home_of}
+use Rattle.fs_model.specs.Ancestors.{is_on_chain}
 use Rattle.fs_record.specs.Records.{AreRecords, RecordMap, nodes_of}
 use Rattle.fs_record.specs.declared.parcel.Parcel.{Parcel}
 use Rattle.fs_server.specs.declared.state.Server.{Server}
 use Rattle.fs_txn.specs.Decided.{held_with}
 use Rattle.fs_txn.specs.Grants.{Decided, IsBare, effects_in}
+use Rattle.fs_txn.specs.declared.leading.Leading.{Leading}
 use Rattle.fs_serial.specs.Cluster.{Cluster, InFlight, Lines, in_flight_from, parcels_of, without_first}
+use Rattle.fs_serial.specs.Conclusions.{TellsCycles}
 use Rattle.fs_serial.specs.Decided.{IsOfFile, WorldStands}
 use Rattle.fs_serial.specs.Exchange.{due}
 use Rattle.fs_serial.specs.Joined.{records_of_all, rows_of_all, with_parcels}
@@ -29,15 +34,16 @@ use Rattle.fs_serial.specs.Seen.{ClusterHolds, IsAddressed, given_at, reaps_at, 
 use Rattle.fs_serial.specs.Sight.{count_with}
 use Rattle.fs_serial.specs.Words.{decided_among, decided_by, decided_in}
 use Rattle.fs_serial.specs.World.{Ends, World, WorldHolds}
+use Rattle.fs_serial.specs.Fresh.{made}
 use Rattle.fs_serial.proofs.DecidedEffects.DecideSeen.{StaysDecided, fits_again}
 use Rattle.fs_serial.proofs.DecidedEffects.GuardsAgain.{all_put}
-use Rattle.fs_serial.proofs.DecidedEffects.HeldSeen.{held_seen}
+use Rattle.fs_serial.proofs.DecidedEffects.HeldSeen.{held_same, held_seen}
 use Rattle.fs_serial.proofs.DecidedEffects.RelockedWorld.{relocked_holds, with_locks}
 use Rattle.fs_serial.proofs.DecidedEffects.ToldParts.{IsPutIn}
 use Rattle.fs_serial.proofs.Lists.Traffic.{IsTaken, taken_first}
 use Rattle.fs_serial.proofs.Moves.Parcels.{parcels-append}
 use Rattle.fs_serial.proofs.Places.RelockedRows.{home_relock, rows_relocked}
-use Rattle.fs_serial.proofs.Moves.KeptPaths.{SamePaths, pathless_still}
+use Rattle.fs_serial.proofs.Moves.KeptPaths.{SamePaths, peers_still}
 use Rattle.fs_serial.proofs.Returns.Lapsing.{same_records}
 use Rattle.fs_serial.proofs.Transactions.DecidedStill.{decided_same, ended_set}
 use Rattle.fs_serial.proofs.Transactions.PlacesAfter.{AreRelocked, AreWords, StaysHome, places_stepped}
@@ -87,7 +93,7 @@ module _ (skew greatest k : ℕ) (c : Cluster) (s t : Server) (at : slice_get c.
       ap₂ (λ ss ps. records_of_all ss ps) q.servers q.parcels
       ∙ ap (with_parcels (parcels_of c.in_flight)) (same_records c.servers k s t empty at q.records)
 
-  held_then : held_seen after ≡ held_seen c
+  pub held_then : held_seen after ≡ held_seen c
   held_then = ap₂ (λ (ds : List Decided) (m : RecordMap). held_with (effects_in ds) m) q.decided records_then
 
   module _ (holds : WorldHolds greatest (record w { ends = ends_in after })) where
@@ -127,7 +133,7 @@ module _ (skew greatest k : ℕ) (c : Cluster) (s t : Server) (at : slice_get c.
 
       pub relocked_stands : PlacesHold after → ((x : Session) → IsAddressed (after.lines x)) → ClusterHolds skew greatest after
       relocked_stands places addressed =
-          all_stand skew greatest k c s at h after t q.servers q.skew clock places (pathless_still s t q.paths) led
+          all_stand skew greatest k c s at h after t q.servers q.skew clock places (peers_still (length c.servers) s.paths t.paths q.paths) led
           (world_holds, fits_again after t led (subst AreRecords (sym records_then) view.1.all.records) stays) addressed
 
 -- ## What is on its way
@@ -222,3 +228,10 @@ module _ (skew greatest k : ℕ) (c : Cluster) (s t : Server) (at : slice_get c.
         (h.parts s (In-got c.servers k s at)).0)
         (λ x e. ap (λ (z : Ends). due z.down) (sym (q.ends x)) ∙ e) led
         (places_stepped k c s t at h.places home left ms [] c.replied lines q.parcels q.among q.words) q.addressed
+
+    -- what a path tells of chains it tells still
+    pub quiet_tells : LedHolds quietly → (l : Leading) (path : Option PathAnswer) → TellsCycles c l path → TellsCycles quietly l path
+    quiet_tells led l path tells made_then files known =
+        tells (ap (λ is. made is (home_of l.leader.op)) (sym (append-nil c.journal)) ∙ made_then) files known
+        ∙ ap (λ m. is_on_chain (nodes_of m) l.leader.file (home_of l.leader.op))
+        (held_same c h.led ∙ sym (held_then skew greatest k c s t at h quietly changes) ∙ sym (held_same quietly led))

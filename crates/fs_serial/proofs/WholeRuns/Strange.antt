@@ -1,4 +1,4 @@
--- Nothing that comes to a server is strange: no question, no parcel, and no word of a transaction.
+-- Nothing that comes to a server is strange: no question, no parcel, no word of a transaction, and no message of path leases.
 use mathlib.Core.Path.{fun_ext}
 use Rattle.std.proofs.Common.{◌≡◌, ℕ, ◌≤◌, max, true, List, [], ◌∷◌, cond, sym, subst}
 use Rattle.std.specs.Prelude.{◌≢◌, Option, Some, None, slice_get}
@@ -12,18 +12,13 @@ use Rattle.fs_moderows.specs.Kept.{KeptPromises}
 use Rattle.fs_msg.specs.declared.client_msg.ClientMsg.{ClientMsg}
 use Rattle.fs_msg.specs.declared.client_msg.ClientMsg.TheVariants.{Ask, Renew, Release, Ship, Lead}
 use Rattle.fs_msg.specs.declared.entry.Entry.{Entry}
-use Rattle.fs_msg.specs.declared.lead.Lead.{Lead as ToLead}
 use Rattle.fs_msg.specs.declared.peer_msg.PeerMsg.{PeerMsg}
 use Rattle.fs_msg.specs.declared.peer_msg.PeerMsg.TheVariants as peer
-use Rattle.fs_msg.specs.declared.server_note.ServerNote.TheVariants as note
 use Rattle.fs_msg.specs.declared.server_note.ServerNote.TheVariants.{Strange}
 use Rattle.fs_parcel.specs.declared.error.MoveError.{MoveError}
 use Rattle.fs_parcel.specs.declared.error.MoveError.TheVariants as move
 use Rattle.fs_record.specs.Effects.{tells_its_effects}
-use Rattle.fs_record.specs.declared.led_end.Why.{Why}
 use Rattle.fs_server.proofs.Splitting.{commit_splits}
-use Rattle.fs_server.specs.Begins.{Round, leader_with, round_of, txn_of}
-use Rattle.fs_server.specs.Leads.{lead_refusal, leads_unless, mode_of}
 use Rattle.fs_server.specs.Moves.{fits_here, move_at, parcel_at}
 use Rattle.fs_server.specs.Reaps.{lapsed_in, turn_over}
 use Rattle.fs_server.specs.Server.{begun, strange}
@@ -32,8 +27,8 @@ use Rattle.fs_server.specs.Step.{event_step, message_step, step}
 use Rattle.fs_server.specs.declared.event.ServerEvent.{ServerEvent}
 use Rattle.fs_server.specs.declared.event.ServerEvent.TheVariants as event
 use Rattle.fs_server.specs.declared.state.Server.{Server}
-use Rattle.fs_serial.proofs.Transactions.AwaitedWords.{goes_on_known, words_awaited}
-use Rattle.fs_serial.proofs.WholeRuns.LedQuestions.{led_there}
+use Rattle.fs_serial.proofs.Transactions.AwaitedWords.{words_awaited}
+use Rattle.fs_serial.proofs.WholeRuns.LedQuestions.{lead_noted}
 use Rattle.fs_serial.specs.Cluster.{Cluster, IsThere, is_with}
 use Rattle.fs_serial.specs.Decided.{WorldStands}
 use Rattle.fs_serial.specs.Owed.{ends_in, taken_leads}
@@ -48,12 +43,13 @@ use Rattle.fs_serial.proofs.Lists.Traffic.{messages}
 use Rattle.fs_serial.proofs.Moves.Arriving.{parcel_stands}
 use Rattle.fs_serial.proofs.Moves.ParcelFits.{RowsStand}
 use Rattle.fs_serial.proofs.Moves.PathSteps.{refusal_here}
+use Rattle.fs_serial.specs.Paths.{PathsHold}
+use Rattle.fs_serial.proofs.Paths.EventsLeave.{begun_paths}
+use Rattle.fs_serial.proofs.Paths.Messages.{none_strange as none_of_paths}
 use Rattle.fs_serial.proofs.OneServer.ServerEvents.{all_plain}
 use Rattle.fs_serial.proofs.Returns.Lapsing.{begun_at, there_begun}
 use Rattle.fs_serial.proofs.Transactions.OtherSteps.{begins_stands}
-use Rattle.fs_serial.proofs.Transactions.PlacesAfter.{names_there}
 use Rattle.fs_serial.proofs.Transactions.StandsAfter.{view}
-use Rattle.fs_txn.specs.declared.leading.Leading.{Leading}
 
 over_note : (xs : List (List ℕ × Session)) (s : Server) → (turn_over xs s).out.note ≢ Strange
 over_note [] s e = absurd (cc)
@@ -70,28 +66,17 @@ log_note by entries s plain =
     subst (λ b. (cond b (shipped by (ship_from by entries s [])) (strange s)).out.note ≢ Strange) (sym plain) (λ e. absurd (cc))
 
 -- a server that has begun
-module _ (skew greatest k : ℕ) (c : Cluster) (s : Server) (at : slice_get c.servers k ≡ Some s) (h : ClusterHolds skew greatest c) where
+module _ (skew greatest k : ℕ) (c : Cluster) (s : Server) (at : slice_get c.servers k ≡ Some s) (h : ClusterHolds skew greatest c)
+    (paths : PathsHold c) where
   now : WorldStands greatest (world_of s c)
   now = view skew greatest k c s at h
-
-  abbrev round : Session → ToLead → Round
-  round by m = round_of (mode_of m.op m.kind) by m s
-
-  leads_note : (o : Option Why) (by : Session) (m : ToLead) → (leads_unless o by m s).out.note ≢ Strange
-  leads_note None by m =
-      let r : Round = round by m in
-      goes_on_known (note.Prepares (txn_of s))
-      (let l : Leading = record { leader = leader_with (mode_of m.op m.kind) (txn_of s) by m r.votes; at = r.at } in l) r.send r.server
-      (λ e. absurd (cc))
-  leads_note (Some w) by m = λ e. absurd (cc)
 
   message_note : (by : Session) (m : ClientMsg) → IsThere k (event.FromClient by m) c → (message_step by m s).out.note ≢ Strange
   message_note by (Ask items dir) there = λ e. absurd (cc)
   message_note by (Renew pairs) there = λ e. absurd (cc)
   message_note by (Release pairs) there = λ e. absurd (cc)
   message_note by (Lead m) there =
-      subst (λ b. (cond b (leads_unless (lead_refusal s m) by m s) (strange s)).out.note ≢ Strange)
-      (sym (led_there skew greatest k c s at h commit_splits by m there)) (leads_note (lead_refusal s m) by m)
+      lead_noted skew greatest k c s at h commit_splits by m there
   message_note by (Ship entries) there =
       let coming : In (Ship entries) (ends_in c by).up =
       In-front (Ship entries) (messages (c.lines by).up) (taken_leads by (c.lines by).client.led c.servers)
@@ -116,7 +101,7 @@ module _ (skew greatest k : ℕ) (c : Cluster) (s : Server) (at : slice_get c.se
   peer_note from (peer.Vote m) there = words_awaited k from c s at (peer.Vote m) there h.led (λ e. absurd (cc))
   peer_note from (peer.Decide m) there = words_awaited k from c s at (peer.Decide m) there h.led (λ e. absurd (cc))
   peer_note from (peer.Done m) there = words_awaited k from c s at (peer.Done m) there h.led (λ e. absurd (cc))
-  peer_note from m there = absurd (names_there k from c m h.places there)
+  peer_note from m there = none_of_paths c k from s m paths at there tt
 
   event_note : (e : ServerEvent) → IsThere k e c → (event_step e s).out.note ≢ Strange
   event_note (event.FromClient by m) there = message_note by m there
@@ -126,7 +111,7 @@ module _ (skew greatest k : ℕ) (c : Cluster) (s : Server) (at : slice_get c.se
   event_note (event.Move prefix to) there = moves_note (refusal_here prefix to s) prefix to s
 
 pub none_strange : (skew greatest now k : ℕ) (e : ServerEvent) (s : Server) (c : Cluster) → slice_get c.servers k ≡ Some s
-    → max s.last now ≤ greatest → IsThere k e c → ClusterHolds skew greatest c → (step s now e).out.note ≢ Strange
-none_strange skew greatest now k e s c at before there h =
+    → max s.last now ≤ greatest → IsThere k e c → ClusterHolds skew greatest c → PathsHold c → (step s now e).out.note ≢ Strange
+none_strange skew greatest now k e s c at before there h paths =
     event_note skew greatest k (begun_at now k s c) (begun now s) (get_here c.servers k s (begun now s) at)
-    (begins_stands skew greatest now k s c at before h) e (there_begun now k s e c there)
+    (begins_stands skew greatest now k s c at before h) (begun_paths now k s c at paths) e (there_begun now k s e c there)

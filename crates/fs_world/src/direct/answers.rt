@@ -1,4 +1,4 @@
-//! Operations, carried out and put into the journal. Where memory is wanting nothing changes.
+//! Operations, carried out and put into the journal. When out of memory nothing changes.
 ghost use Rattle.std.specs.Prelude.{if◌then◌else◌, ◌≡◌, ◌+◌, ◌^◌, ◌<◌, length, slice_set, false, IfOk, OnOk, OnErr, Some, None};
 ghost use Rattle.std.specs.FinMap as map;
 ghost use Rattle.fs_model.specs.Step.{step};

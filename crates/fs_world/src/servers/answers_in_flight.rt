@@ -8,7 +8,7 @@ use fs_msg::Msg;
 use std::alloc::Global;
 
 /// The answers among these messages of the server are on their way to the sessions that have joined: all of them, or none
-/// where memory is wanting.
+/// when out of memory.
 pub(crate) fn push_downs(
     alloc: Global,
     k: u8,

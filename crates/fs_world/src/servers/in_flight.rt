@@ -7,7 +7,7 @@ use fs_msg::Msg;
 use fs_serial::InFlight;
 use std::alloc::Global;
 
-/// Those of these messages of the server that go to servers are on their way: all of them, or none where memory is wanting.
+/// Those of these messages of the server that go to servers are on their way: all of them, or none when out of memory.
 pub(crate) fn push_in_flight(
     alloc: Global,
     k: u8,
@@ -27,7 +27,7 @@ pub(crate) fn push_in_flight(
     }
 }
 
-/// The same, where some may be on their way after an error.
+/// Puts those messages that go to servers on their way one by one; after an error some may be on their way.
 fn push_each(
     alloc: Global,
     k: u8,

@@ -37,7 +37,7 @@ pub(crate) fn send_due(
     send_noted(alloc, who, turn, heard, notes, post, packets)
 }
 
-/// The same, where these are its notes.
+/// What is due on an actor's links joins the packets, and the outcome has these notes and the numbers of the packets.
 pub(crate) fn send_noted(
     alloc: Global,
     who: Peer,

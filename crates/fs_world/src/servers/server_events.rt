@@ -108,7 +108,7 @@ fn carry_out(
     )?)
 }
 
-/// Sends what is due on the server's links, and does the rest of the plan: all of it, or nothing where memory is wanting.
+/// Sends what is due on the server's links, and does the rest of the plan: all of it, or nothing when out of memory.
 fn send(
     alloc: Global,
     k: u8,

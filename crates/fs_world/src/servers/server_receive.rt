@@ -293,7 +293,7 @@ fn replies(
 }
 
 /// What the server sent and admitted as it heard them stands where it is to stand, and what is due on its links goes out: all of
-/// it, or nothing where memory is wanting.
+/// it, or nothing when out of memory.
 fn send_all(
     alloc: Global,
     k: u8,

@@ -66,7 +66,7 @@ impl SessionStates {
         self.sessions.get_mut(&s.0)
     }
 
-    /// Puts what stands at a session, and gives up what stood there. Where memory is wanting, this is given up.
+    /// Puts what stands at a session, and gives up what stood there. When out of memory, this is given up.
     pub(crate) fn add(&mut self, s: Session, state: SessionState) -> Result<(), Memory>
         ensures ok { OnOk result (self.new ≡ map.insert self.old s.0 state) }
         ensures err { OnErr result (self.new ≡ self.old) }

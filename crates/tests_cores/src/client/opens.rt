@@ -137,7 +137,7 @@ fn used_in(alloc: Global, sent: &Option<(u8, ClientMsg)>) -> Result<List<u64>, F
     }
 }
 
-/// The same at the client's turn.
+/// The numbers of the leases that the entries use that the client hands in at its turn.
 fn handed_in(alloc: Global, core: &mut ClientCore) -> Result<List<u64>, Fail> {
     let out = core.turn(alloc, NOW)?;
     let used = used_in(alloc, &out.send);

@@ -103,7 +103,7 @@ pub(crate) const REFUSED_1: &[u8] = &[
     0, 0, 0, 100, 0, 0, 0, 0, 0, 0, 0, 110,
 ];
 
-/// The same of entry 2.
+/// No entry is admitted, since the lease of entry 2 has ended.
 pub(crate) const REFUSED_2: &[u8] = &[
     20, 0, 0, 0, 0, 0, 0, 0, 0, 5, 0, 0, 0, 0, 0, 0, 0, 2, 0, 0, 0, 0, 0, 0, 0, 0, 1, 0, 0, 0, 0,
     0, 0, 0, 100, 0, 0, 0, 0, 0, 0, 0, 110,

@@ -95,10 +95,8 @@ const ENDED: &str =
     now: 110 }, send: List { items: [(Client(Session(1)), Answer(Led { end: Ended { lease: LeaseNo { server: 0, count: 1 }, \
     until: 100, now: 110 } }))] }, admitted: List { items: [] } }";
 
-const WANTED: &str = "Refuses { why: Wanted { file: FileId { numbers: [] } } }";
-
-/// A directory does not come into another one, and after the leases' end nothing is done. Once the file has gone, its server is asked.
-const PUT_OFF: &[Line] = &[
+/// After the leases' end nothing is done. Once the file has gone, its server is asked.
+const ENDS_OR_ASKS: &[Line] = &[
     (
         0,
         Event::From(1, said::ASK_TO_CREATE),
@@ -106,12 +104,6 @@ const PUT_OFF: &[Line] = &[
         THREE_GRANTS,
     ),
     (5, Event::From(1, said::LOG), Seen::Note, ADMITS),
-    (
-        10,
-        Event::From(1, said::LEAD_DIR_INTO_ROOT),
-        Seen::Note,
-        WANTED,
-    ),
     (110, Event::From(1, said::LEAD_DELETE), Seen::All, ENDED),
     (
         111,
@@ -128,8 +120,8 @@ const PUT_OFF: &[Line] = &[
 ];
 
 #[test]
-fn an_operation_is_put_off_or_ends(rt: HostRuntime) -> Result<(), Fail> {
-    plays_first(&rt, rt.alloc(), PUT_OFF)
+fn an_operation_ends_or_its_server_is_asked(rt: HostRuntime) -> Result<(), Fail> {
+    plays_first(&rt, rt.alloc(), ENDS_OR_ASKS)
 }
 
 /// Another server does not manage the root.
@@ -153,7 +145,7 @@ fn an_operation_is_led_at_its_home(rt: HostRuntime) -> Result<(), Fail> {
 }
 
 /// A create of the directory 1.
-const CREATES_DIR: &[Line] = &[
+pub(super) const CREATES_DIR: &[Line] = &[
     (
         0,
         Event::From(1, said::ASK_TO_CREATE),

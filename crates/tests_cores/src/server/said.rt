@@ -74,7 +74,7 @@ pub(crate) const PARCEL: &[u8] = &[
     0, 80, 1, 0, 0, 0, 0, 0, 0, 0, 100, 0, 0,
 ];
 
-/// The same with a row whose number the server that it comes to never gave, though it is one of its own.
+/// The parcel of the file 1 with a row whose number is one of the server's that it comes to, which never gave it.
 pub(crate) const ODD_PARCEL: &[u8] = &[
     37, 80, 80, 0, 0, 0, 0, 0, 0, 0, 1, 80, 1, 0, 0, 0, 0, 0, 0, 0, 1, 80, 0, 1, 128, 1, 97, 0, 0,
     0, 0, 0, 0, 0, 0, 0, 0, 0, 0, 0, 0, 0, 0, 0, 0, 0, 0, 0, 0, 0, 0, 0, 0, 0, 0, 0, 0, 0, 1, 0, 1,
@@ -102,7 +102,7 @@ pub(crate) const LEAD_DELETE: &[u8] = &[
     0, 0, 0, 0, 100, 0, 80, 1, 0, 0, 0, 0, 0, 0, 0, 0, 3, 0, 0, 0, 0, 0, 0, 0, 100,
 ];
 
-/// The same of a directory.
+/// To lead the delete of `a`, the directory 1, by its first three leases.
 pub(crate) const LEAD_DELETE_OF_DIR: &[u8] = &[
     5, 0, 0, 0, 0, 0, 0, 0, 3, 8, 128, 1, 97, 80, 1, 0, 0, 0, 0, 0, 0, 0, 3, 0, 128, 0, 0, 0, 0, 0,
     0, 0, 0, 0, 1, 0, 0, 0, 0, 0, 0, 0, 100, 1, 128, 1, 97, 1, 0, 0, 0, 0, 0, 0, 0, 0, 2, 0, 0, 0,
@@ -288,3 +288,37 @@ pub(crate) const YES_OF_THIRD: &[u8] = &[34, 0, 0, 0, 0, 0, 0, 0, 0, 3, 1, 0];
 
 /// What it had to do is done.
 pub(crate) const DONE_OF_THIRD: &[u8] = &[36, 0, 0, 0, 0, 0, 0, 0, 0, 3, 1];
+
+/// A log of the create of `f` in the directory 1, as the directory 1/1, by the fourth lease.
+pub(crate) const LOG_OF_DIR_BELOW: &[u8] = &[
+    4, 0, 0, 0, 0, 0, 0, 0, 1, 0, 0, 0, 0, 0, 0, 0, 2, 4, 80, 1, 102, 1, 1, 120, 12, 0, 0, 0, 0, 0,
+    0, 0, 1, 1, 80, 1, 102, 1, 0, 0, 0, 0, 0, 0, 0, 0, 4, 0, 0, 0, 0, 0, 0, 0, 102,
+];
+
+/// To lead the rename of `a`, the directory 1, from the root to `h` in the directory 1/1.
+pub(crate) const LEAD_DIR_DOWN: &[u8] = &[
+    5, 0, 0, 0, 0, 0, 0, 0, 3, 9, 128, 1, 97, 120, 1, 104, 80, 1, 0, 0, 0, 0, 0, 0, 0, 0,
+];
+
+/// To lead the rename of `b`, the directory 2, from the root to `g` in the directory 1.
+pub(crate) const LEAD_SECOND_INTO_FIRST: &[u8] = &[
+    5, 0, 0, 0, 0, 0, 0, 0, 3, 9, 128, 1, 98, 80, 1, 103, 72, 1, 0, 0, 0, 0, 0, 0, 0, 0,
+];
+
+/// For the path of the directory 1 in the directory 1/1.
+pub(crate) const PATH_ASK_DOWN: &[u8] = &[38, 80, 120];
+
+/// The first path that the server 0 gave is asked back.
+pub(crate) const FIRST_PATH_ASKED_BACK: &[u8] = &[41, 0, 0, 0, 0, 0, 0, 0, 0, 1];
+
+/// The second part of the first transaction that the server 1 leads is ready.
+pub(crate) const YES_OF_SOURCE: &[u8] = &[34, 1, 0, 0, 0, 0, 0, 0, 0, 1, 1, 0];
+
+/// Its third part is.
+pub(crate) const YES_OF_MOVED: &[u8] = &[34, 1, 0, 0, 0, 0, 0, 0, 0, 1, 2, 0];
+
+/// What its second part had to do is done.
+pub(crate) const DONE_OF_SOURCE: &[u8] = &[36, 1, 0, 0, 0, 0, 0, 0, 0, 1, 1];
+
+/// What its third part had to do is done.
+pub(crate) const DONE_OF_MOVED: &[u8] = &[36, 1, 0, 0, 0, 0, 0, 0, 0, 1, 2];

@@ -106,7 +106,7 @@ fn fit_in(
     come(alloc, table, selves, more)
 }
 
-/// The same in a new table, where these sessions write the file.
+/// Whether these rows fit beside those in a new table, where these sessions write the file.
 fn fit(alloc: Global, here: &[Told], more: &[Told], sessions: &[u16]) -> Result<bool, Fail> {
     let selves = writers(alloc, sessions)?;
     let mut table = ModeRows::new(alloc);

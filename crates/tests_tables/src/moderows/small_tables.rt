@@ -248,7 +248,7 @@ fn agree(
     Ok(answer(alloc, rows, selves, by, Question::Other)? == case.other(s))
 }
 
-/// The same with the rows of the case.
+/// Whether all answers to the session are those of a plain search in the rows of the case.
 fn agree_in(
     alloc: Global,
     selves: &List<(Session, Modes)>,
@@ -263,7 +263,8 @@ fn agree_in(
     all
 }
 
-/// The same with those that have the mode.
+/// Whether all answers to the session are those of a plain search, in the rows of the case and with those that have the
+/// mode.
 fn agrees(alloc: Global, case: Case, s: usize) -> Result<bool, Fail>
     requires { s < 3 }
 {

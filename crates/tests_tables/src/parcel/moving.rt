@@ -207,7 +207,7 @@ fn is_told(rt: &impl Abort, alloc: Global, s0: &Server, prefix: &FileId) -> Resu
     Ok(())
 }
 
-/// The same of the first directory.
+/// What of the first directory would go is told before it goes.
 fn first_is_told(rt: &impl Abort, alloc: Global, s0: &Server) -> Result<(), Fail>
     requires { AreRows (in_one_list s0.now.rows s0.now.modes) }
 {

@@ -56,7 +56,7 @@ fn are_one(
     Ok(are_one_list(alloc, rows, modes)?)
 }
 
-/// The same of new tables.
+/// Whether new tables make one list once one has a row of the first number and the other has one of the second.
 fn make_one(alloc: Global, off: u64, on: u64) -> Result<bool, Fail> {
     let mut rows = Rows::new(alloc);
     let mut modes = ModeRows::new(alloc);

@@ -43,7 +43,7 @@ pub(super) fn server_text(alloc: Global, s: &Server) -> Result<String, Fail> {
     text
 }
 
-/// The same of what is the server's of the piece.
+/// The server's part of the piece: its map, its files, and the numbers of its rows in each table.
 fn text_in(alloc: Global, s: &Server, all: &MapPiece) -> Result<String, Fail> {
     let mut text = String::new(alloc);
     let done = add_server(alloc, &mut text, s, all);

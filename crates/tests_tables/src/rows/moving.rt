@@ -99,7 +99,7 @@ fn stand(rows: &[Row]) -> [bool; 3] {
     ]
 }
 
-/// The same of rows that went.
+/// Whether each of the three stands among the rows that went.
 fn went(rows: List<Row>) -> [bool; 3] {
     let stand = stand(rows.as_slice());
     spend(rows);

@@ -1,4 +1,4 @@
-use Rattle.std.proofs.Common.{◌≡◌, ◌<◌, length, arith}
+use Rattle.std.proofs.Common.{◌<◌, length, arith}
 use Rattle.fs_path.specs.Tables.{leaving}
 use Rattle.fs_path.proofs.Placing.{put_back, same_there}
 use Rattle.fs_path.proofs.giving.leave_at.Goals as goal

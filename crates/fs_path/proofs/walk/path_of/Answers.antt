@@ -1,4 +1,4 @@
-use Rattle.std.proofs.Common.{◌≡◌, ◌<◌, [], ◌∷◌, ap, sym, subst, ◌∙◌}
+use Rattle.std.proofs.Common.{◌<◌, [], ◌∷◌, ap, sym, subst, ◌∙◌}
 use Rattle.fs_path.specs.Tables.{PathTables}
 use Rattle.fs_path.specs.Walk.{rise_from}
 use Rattle.fs_path.proofs.Meeting.{IsOnWay, fewer_unmet, goes_on, sets_out, unmet}

@@ -1,5 +1,5 @@
-use Rattle.fs_serial.proofs.Transactions.FirstStands.{first_stands}
+use Rattle.fs_serial.proofs.WholeRuns.ClusterRuns.{first_all}
 use Rattle.fs_serial.proofs.law.the_first_cluster_has_all_parts.Goals as goal
 
 pub returns : goal.returns
-returns c = first_stands
+returns c = first_all

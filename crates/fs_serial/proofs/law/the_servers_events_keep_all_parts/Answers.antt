@@ -1,4 +1,4 @@
-use Rattle.fs_serial.proofs.WholeRuns.ClusterRuns.{cluster_later}
+use Rattle.fs_serial.proofs.WholeRuns.ClusterRuns.{stands_later}
 use Rattle.fs_serial.proofs.WholeRuns.ClusterSteps.{server_keeps}
 use Rattle.fs_serial.proofs.law.the_servers_events_keep_all_parts.Goals as goal
 
@@ -6,4 +6,4 @@ pub returns-clause-event : goal.returns-clause-event
 returns-clause-event c = server_keeps
 
 pub returns-clause-rises : goal.returns-clause-rises
-returns-clause-rises c = cluster_later
+returns-clause-rises c = stands_later

@@ -1,5 +1,4 @@
 use Rattle.std.proofs.Common.{◌≡◌, drop}
-use Rattle.std.specs.List.{list_any}
 use Rattle.fs_path.specs.Asked.{asks}
 use Rattle.fs_path.specs.Returns.{rests_on_asked}
 use Rattle.fs_path.proofs.asked.Asked.stands_under.Given as goal
