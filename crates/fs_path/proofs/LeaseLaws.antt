@@ -18,7 +18,7 @@ use Rattle.fs_path.specs.Returns.{asked_back, goes_back, is_needed}
 use Rattle.fs_path.specs.Tables.{frozen_for, lease_of}
 
 -- what passes a test and stands in a list stands among those that pass
-passes : {X : Type 0} (test : X → Bool) (x : X) (xs : List X) → In x xs → test x ≡ true → In x (filter test xs)
+pub passes : {X : Type 0} (test : X → Bool) (x : X) (xs : List X) → In x xs → test x ≡ true → In x (filter test xs)
 passes test x [] i e = absurd i
 passes test x (y ∷ ys) (inl q) e = subst (λ b. In x (cond b (y ∷ filter test ys) (filter test ys))) (sym (ap test (sym q) ∙ e)) (inl q)
 passes test x (y ∷ ys) (inr i) e = by (test y) (passes test x ys i e)
@@ -28,7 +28,7 @@ passes test x (y ∷ ys) (inr i) e = by (test y) (passes test x ys i e)
     by false j = j
 
 -- whoever stands among those that pass does so
-passed : {X : Type 0} (test : X → Bool) (x : X) (xs : List X) → In x (filter test xs) → test x ≡ true
+pub passed : {X : Type 0} (test : X → Bool) (x : X) (xs : List X) → In x (filter test xs) → test x ≡ true
 passed test x [] i = absurd i
 passed test x (y ∷ ys) i = by (test y) refl (passed test x ys) i
   where

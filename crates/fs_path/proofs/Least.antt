@@ -1,5 +1,5 @@
 -- The least number of the leases whose paths go below a prefix, as the index tells it.
-use Rattle.std.proofs.Common.{◌≡◌, ◌∙◌, ◌&&◌, ◌||◌, ◌==◌, ℕ, length, Bool, true, false, not, List, [], ◌∷◌, refl, ap, cond, sym, inl, inr}
+use Rattle.std.proofs.Common.{◌≡◌, ◌∙◌, ◌&&◌, ◌||◌, ◌==◌, ℕ, length, map, Bool, true, false, not, List, [], ◌∷◌, refl, ap, cond, sym, inl, inr}
 use Rattle.std.specs.Prelude.{Option, Some, None, is_some, option_map}
 use Rattle.std.specs.List.{filter, find, list_all, list_any}
 use Rattle.std.specs.List.Sorted.{IsStrictlySortedBy}
@@ -22,10 +22,11 @@ use Rattle.fs_ident.proofs.Standing.{any_In}
 use Rattle.fs_map.specs.Map.{Owners, begins, is_given, server_of}
 use Rattle.fs_map.proofs.Found.{In_found}
 use Rattle.fs_record.proofs.Parting.{between, from_prefix}
-use Rattle.fs_path.specs.Index.{ByFile, IsOver, are_rising, first_named, least_from, least_into, listed, no_of_issued, number_into}
+use Rattle.fs_path.specs.Index.{ByFile, IsOver, IsVia, are_rising, first_named, least_from, least_into, listed, no_of_issued, number_into}
 use Rattle.fs_path.specs.Leases.{PathLease, goes_into, goes_over, lesser_no, path_before, same_path_no}
 use Rattle.fs_path.specs.Returns.{recalls}
-use Rattle.fs_path.specs.Tables.{through}
+use Rattle.fs_path.specs.Tables.{lease_of, through}
+use Rattle.fs_path.specs.declared.having.Having.{Having}
 use Rattle.fs_path.specs.declared.index.FileIndex.{FileIndex}
 use Rattle.fs_path.proofs.Over.{first_is, some_named}
 use Rattle.fs_path.proofs.Rising.{before_or_after, before_trans, not_back, same_no_is}
@@ -98,13 +99,13 @@ lesser_from m (Some a) (Some b) h k = by (path_before b a)
 
 -- ## Together
 
-not_below : (p q : List ℕ) → is_le (slice_cmp nat_cmp p q) ≡ false → begins p q ≡ false
+pub not_below : (p q : List ℕ) → is_le (slice_cmp nat_cmp p q) ≡ false → begins p q ≡ false
 not_below p q a = elim (begins p q) as (λ b. begins p q ≡ b → b ≡ false) [
   | true ↦ λ b. absurd (cc (sym (from_prefix p q b) ∙ a))
   | false ↦ λ b. refl
 ] refl
 
-abbrev from_there : List ℕ → Keyed Names → Keyed Names
+abbrev pub from_there : List ℕ → Keyed Names → Keyed Names
 from_there prefix es = filter (λ e. is_le (slice_cmp nat_cmp prefix e.0) && true) es
 
 past : (owners : Owners) (me : ℕ) (prefix : List ℕ) (e : List ℕ × Names) (es : Keyed Names) → begins prefix e.0 ≡ false → least_into owners me prefix (e ∷ es) ≡ least_into owners me prefix es
@@ -138,11 +139,11 @@ least_there owners me prefix m h =
 
 -- ## Beside the leases
 
-second_or : (a b : Bool) → b ≡ true → (a || b) ≡ true
+pub second_or : (a b : Bool) → b ≡ true → (a || b) ≡ true
 second_or true b h = refl
 second_or false b h = h
 
-some_In : {X : Type 0} (test : X → Bool) (xs : List X) (x : X) → In x xs → test x ≡ true → list_any test xs ≡ true
+pub some_In : {X : Type 0} (test : X → Bool) (xs : List X) (x : X) → In x xs → test x ≡ true → list_any test xs ≡ true
 some_In test [] x i e = absurd i
 some_In test (y ∷ ys) x (inl q) e = ap (λ b. b || list_any test ys) (ap test (sym q) ∙ e)
 some_In test (y ∷ ys) x (inr i) e = second_or (test y) (list_any test ys) (some_In test ys x i e)
@@ -237,7 +238,7 @@ least_is owners me prefix (l ∷ ls) ks r all =
 
 -- ## The index
 
-has_key : (k : List ℕ) (es : Keyed Names) → is_some (find_entry (slice_cmp nat_cmp) k es) ≡ true → In k (keys_of es)
+pub has_key : (k : List ℕ) (es : Keyed Names) → is_some (find_entry (slice_cmp nat_cmp) k es) ≡ true → In k (keys_of es)
 has_key k [] h = absurd (cc h)
 has_key k (e ∷ es) h = by (eq_by_cmp (slice_cmp nat_cmp) k e.0) refl h (has_key k es)
   where
@@ -245,7 +246,7 @@ has_key k (e ∷ es) h = by (eq_by_cmp (slice_cmp nat_cmp) k e.0) refl h (has_ke
     by true q s rest = inl (anti k e.0 (equal_is _ q))
     by false q s rest = inr (rest s)
 
-listed_some : (o : Option Names) (ns : Names) → listed o ≡ ns → not (length ns == 0) ≡ true → is_some o ≡ true
+pub listed_some : (o : Option Names) (ns : Names) → listed o ≡ ns → not (length ns == 0) ≡ true → is_some o ≡ true
 listed_some (Some x) ns e h = refl
 listed_some None ns e h = let wrong : false ≡ true = ap (λ xs. not (length xs == 0)) e ∙ h in absurd (cc wrong)
 
@@ -261,3 +262,18 @@ least_over owners me prefix index issued h w =
     let q = h w in
     each_through owners me prefix issued (entries (map_of index.files)) (λ e i. sym (ap listed (get-entries (map_of index.files) e.0 ∙ In_found e (entries (map_of index.files)) (holds _ (entries_sorted (map_of index.files))) i)) ∙ q.1 e.0)
     ∙ least_is owners me prefix issued (keys_of (entries (map_of index.files))) q.0 (λ k e. has_key k (entries (map_of index.files)) (listed_some (find_entry (slice_cmp nat_cmp) k (entries (map_of index.files))) (recalls (goes_over k) issued) (sym (ap listed (get-entries (map_of index.files) k)) ∙ q.1 k) (some_named (goes_over k) issued ∙ e)))
+
+-- and for those from other servers
+first_via : (owners : Owners) (me : ℕ) (prefix : List ℕ) (held : List Having)
+    → option_map (λ (l : PathLease). l.no) (find (goes_into owners me prefix) (map lease_of held)) ≡ option_map (λ h. (lease_of h).no) (find (λ h. goes_into owners me prefix (lease_of h)) held)
+first_via owners me prefix [] = refl
+first_via owners me prefix (h ∷ hs) = by (goes_into owners me prefix (lease_of h)) (first_via owners me prefix hs)
+  where
+    by : (b : Bool) → option_map (λ (l : PathLease). l.no) (find (goes_into owners me prefix) (map lease_of hs)) ≡ option_map (λ x. (lease_of x).no) (find (λ x. goes_into owners me prefix (lease_of x)) hs)
+        → option_map (λ (l : PathLease). l.no) (cond b (Some (lease_of h)) (find (goes_into owners me prefix) (map lease_of hs))) ≡ option_map (λ x. (lease_of x).no) (cond b (Some h) (find (λ x. goes_into owners me prefix (lease_of x)) hs))
+    by true rest = refl
+    by false rest = rest
+
+pub least_via : (owners : Owners) (me : ℕ) (prefix : List ℕ) (index : FileIndex) (held : List Having) → IsVia index held → index.whole ≡ true
+    → least_into owners me prefix (entries (map_of index.files)) ≡ option_map (λ h. (lease_of h).no) (find (λ h. goes_into owners me prefix (lease_of h)) held)
+least_via owners me prefix index held h w = least_over owners me prefix index (map lease_of held) h w ∙ first_via owners me prefix held

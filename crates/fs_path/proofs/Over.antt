@@ -23,11 +23,11 @@ pub recalls_rise : (test : Test) (issued : List PathLease) → are_rising no_of_
 recalls_rise test issued h = rising_map no_of_issued no_of_named named_to_peer (λ l. refl) (filter test issued) ∙ rising_filter no_of_issued test issued h
 
 -- before all, the name goes first
-name_first : (name : ℕ × PathNo) (names : List (ℕ × PathNo)) → list_all (λ n. path_before name.1 n.1) names ≡ true → with_named name names ≡ name ∷ names
+pub name_first : (name : ℕ × PathNo) (names : List (ℕ × PathNo)) → list_all (λ n. path_before name.1 n.1) names ≡ true → with_named name names ≡ name ∷ names
 name_first name [] h = refl
 name_first name (n ∷ ns) h = ap (λ b. cond b (name ∷ n ∷ ns) (n ∷ with_named name ns)) (both (path_before name.1 n.1) (list_all (λ m. path_before name.1 m.1) ns) h).0
 
-all_names : (n : PathNo) (test : Test) (issued : List PathLease) → list_all (λ l. path_before n l.no) issued ≡ true → list_all (λ m. path_before n m.1) (recalls test issued) ≡ true
+pub all_names : (n : PathNo) (test : Test) (issued : List PathLease) → list_all (λ l. path_before n l.no) issued ≡ true → list_all (λ m. path_before n m.1) (recalls test issued) ≡ true
 all_names n test [] h = refl
 all_names n test (l ∷ ls) h =
     let q = both (path_before n l.no) (list_all (λ x. path_before n x.no) ls) h in

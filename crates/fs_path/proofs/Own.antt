@@ -1,101 +1,155 @@
--- Leases from other servers, and their names at their own files.
+-- Leases from other servers, and their names at their own files and at the files of their paths.
 use Rattle.std.proofs.Common.{◌≡◌, ◌∙◌, ◌&&◌, ◌||◌, ℕ, Bool, true, false, not, List, [], ◌∷◌, ◌++◌, ◌<◌, ◌≤◌, zero, suc, refl, ap, cond, sym, subst, map, length, get_or, take, drop, arith, inl, inr}
 use Rattle.std.specs.Prelude.{Some, None, slice_set}
 use Rattle.std.specs.List.{filter, find, list_all, list_any, position, remove}
 use Rattle.std.proofs.Math.Bool.{or-false}
+use Rattle.std.proofs.Math.Seq.{map-set_same}
+use Rattle.std.proofs.lemmas.List.{get_or-map, length-map}
 use Rattle.fs_ident.specs.In.{In}
 use Rattle.fs_ident.specs.Ident.{same}
 use Rattle.fs_ident.specs.declared.actor.PathNo.{PathNo}
 use Rattle.fs_ident.proofs.Booleans.{both}
 use Rattle.fs_ident.proofs.Passing.{all-In}
 use Rattle.fs_ident.proofs.Standing.{In-filter}
-use Rattle.fs_path.specs.Index.{ChangesAmong, IsNewAmong, IsNoted, IsOver, IsOwn, are_rising, at_own, first_of, if_used, is_numbered, named_at, no_of_held, no_of_issued, used_named, without_named}
+use Rattle.fs_path.specs.Index.{AreRisingAt, ChangesAmong, IsHad, IsNewAmong, IsNoted, IsOver, IsOwn, IsVia, are_rising, at_own, first_of, if_used, is_numbered, named_at, no_of_held, no_of_issued, used_named, without_named}
 use Rattle.fs_path.specs.Leases.{PathLease, goes_over, has_no, named_to_peer, path_before, same_path_no}
 use Rattle.fs_path.specs.Returns.{asked_back, goes_back, held_after, is_needed, is_of, recalls, rests_on_asked}
 use Rattle.fs_path.specs.Tables.{is_leaving, lease_of, leaving, with_held, with_issued}
 use Rattle.fs_path.specs.Walk.{used_for}
 use Rattle.fs_path.specs.declared.having.Having.{Having}
 use Rattle.fs_path.specs.declared.having.Having.TheVariants.{Held, Leaving}
+use Rattle.fs_path.specs.declared.held_index.HeldIndex.{HeldIndex}
 use Rattle.fs_path.specs.declared.index.FileIndex.{FileIndex}
-use Rattle.fs_path.proofs.Over.{forgot_over, noted_over}
+use Rattle.fs_path.proofs.Over.{forgot_over, noted_over, over_rises}
 use Rattle.fs_path.proofs.Placing.{none_back}
 use Rattle.fs_path.proofs.Rising.{ahead_unlike, behind_none, find_none, placed_any, rising_map, same_no_self, unlike}
 
--- ## The same, as if they were given out
+-- ## As they stand in an index
 
-rise_own : (held : List Having) → are_rising no_of_issued (map at_own held) ≡ are_rising no_of_held held
-rise_own held = rising_map no_of_held no_of_issued at_own (λ h. refl) held
+-- a lease stands there by its own name, and one that is leaving where it stood
+pub record IsStanding (at : Having → PathLease) : Type 0 where
+  pub named : (h : Having) → named_to_peer (at h) ≡ named_to_peer (lease_of h)
+  pub stays : (h : Having) → at (leaving h) ≡ at h
 
--- while the index is whole their numbers rise
+module _ (at : Having → PathLease) (stands : IsStanding at) where
+  number_standing : (h : Having) → (at h).no ≡ (lease_of h).no
+  number_standing h = ap (λ (name : ℕ × PathNo). name.1) (stands.named h)
+
+  rise_standing : (held : List Having) → are_rising no_of_issued (map at held) ≡ are_rising no_of_held held
+  rise_standing held = rising_map no_of_held no_of_issued at number_standing held
+
+  -- while the index is whole their numbers rise
+  standing_rises : (index : FileIndex) (held : List Having) → IsOver index (map at held) → index.whole ≡ true → are_rising no_of_held held ≡ true
+  standing_rises index held h w = sym (rise_standing held) ∙ (h w).0
+
+  any_standing : (number : PathNo) (held : List Having) → list_any (is_numbered no_of_issued number) (map at held) ≡ list_any (is_numbered no_of_held number) held
+  any_standing number [] = refl
+  any_standing number (h ∷ hs) =
+      ap (λ n. same_path_no n number || list_any (is_numbered no_of_issued number) (map at hs)) (number_standing h)
+      ∙ ap (λ b. is_numbered no_of_held number h || b) (any_standing number hs)
+
+  put_standing : (h : Having) (held : List Having) → map at (with_held h held) ≡ with_issued (at h) (map at held)
+  put_standing h [] = refl
+  put_standing h (x ∷ xs) =
+      by (path_before (lease_of h).no (lease_of x).no) (put_standing h xs)
+      ∙ ap (λ n. cond (path_before n (lease_of x).no) (at h ∷ at x ∷ map at xs) (at x ∷ with_issued (at h) (map at xs))) (sym (number_standing h))
+      ∙ ap (λ n. cond (path_before (at h).no n) (at h ∷ at x ∷ map at xs) (at x ∷ with_issued (at h) (map at xs))) (sym (number_standing x))
+    where
+      by : (b : Bool) → map at (with_held h xs) ≡ with_issued (at h) (map at xs)
+          → map at (cond b (h ∷ x ∷ xs) (x ∷ with_held h xs)) ≡ cond b (at h ∷ at x ∷ map at xs) (at x ∷ with_issued (at h) (map at xs))
+      by true e = refl
+      by false e = ap (λ ys. at x ∷ ys) e
+
+  remove_standing : (held : List Having) (i : ℕ) → map at (remove held i) ≡ remove (map at held) i
+  remove_standing [] zero = refl
+  remove_standing [] (suc i) = refl
+  remove_standing (x ∷ xs) zero = refl
+  remove_standing (x ∷ xs) (suc i) = ap (λ ys. at x ∷ ys) (remove_standing xs i)
+
+  left_standing : (asked : Having → Bool) (held : List Having) → map at (map (asked_back asked) held) ≡ map at held
+  left_standing asked [] = refl
+  left_standing asked (h ∷ hs) = by (asked h) ∙ ap (λ ys. at h ∷ ys) (left_standing asked hs)
+    where
+      by : (b : Bool) → at (cond b (leaving h) h) ∷ map at (map (asked_back asked) hs) ≡ at h ∷ map at (map (asked_back asked) hs)
+      by true = ap (λ l. l ∷ map at (map (asked_back asked) hs)) (stands.stays h)
+      by false = refl
+
+  -- the one at the place is leaving
+  leaving_standing : (held : List Having) (i : ℕ) (d : Having) (index : FileIndex) → IsOver index (map at held) → d ≡ get_or held i d → IsOver index (map at (slice_set held i (leaving d)))
+  leaving_standing held i d index h e = subst (λ ls. IsOver index ls) (sym (map-set_same at held i (leaving d) d (stands.stays d ∙ ap at e))) h
+
+  -- those that are asked back are
+  still_standing : (asked : Having → Bool) (held : List Having) (index : FileIndex) → IsOver index (map at held) → IsOver index (map at (map (asked_back asked) held))
+  still_standing asked held index h = subst (λ ls. IsOver index ls) (sym (left_standing asked held)) h
+
+  -- one lease more is noted
+  noted_standing : (new : Having) (is_new : Bool) (held : List Having) (old now : FileIndex) → IsOver old (map at held) → IsNewAmong no_of_held (lease_of new).no held is_new
+      → IsNoted is_new (named_to_peer (lease_of new)) (at new).path old now → IsOver now (map at (with_held new held))
+  noted_standing new is_new held old now h fresh noted =
+      subst (λ ls. IsOver now ls) (sym (put_standing new held))
+      (noted_over (at new) is_new (map at held) old now h
+      (λ e. ap (λ n. list_any (is_numbered no_of_issued n) (map at held)) (number_standing new) ∙ any_standing (lease_of new).no held ∙ fresh e)
+      (subst (λ name. IsNoted is_new name (at new).path old now) (sym (stands.named new)) noted))
+
+  -- the one at the place is forgotten where it stands
+  forgot_standing : (held : List Having) (i : ℕ) (d : Having) (old now : FileIndex) → IsOver old (map at held) → i < length held → d ≡ get_or held i d → now.whole ≡ old.whole
+      → (old.whole ≡ true → ChangesAmong (without_named (lease_of d).no) (at d).path old.files now.files) → IsOver now (map at (remove held i))
+  forgot_standing held i d old now h l e same change w =
+      let before : old.whole ≡ true = sym same ∙ w in
+      let there : get_or (map at held) i (at d) ≡ at d = get_or-map at held i d (at d) l ∙ ap at (sym e) in
+      subst (λ ls. IsOver now ls) (sym (remove_standing held i))
+      (forgot_over (lease_of d).no (map at held) i (at d) old now h before (subst (λ n. i < n) (sym (length-map held at)) l)
+      (ap (has_no (lease_of d).no) there ∙ ap (λ n. same_path_no n (lease_of d).no) (number_standing d) ∙ same_no_self (lease_of d).no) same
+      (subst (λ (x : PathLease). ChangesAmong (without_named (lease_of d).no) x.path old.files now.files) (sym there) (change before))) w
+
+-- ## Both indexes
+
+-- at its own file, and at the files of its path
+own_stands : IsStanding at_own
+own_stands = record { named = λ h. refl; stays = λ h. refl }
+
+via_stands : IsStanding lease_of
+via_stands = record { named = λ h. refl; stays = λ h. refl }
+
+-- while an index is whole the numbers rise
 pub own_rises : (index : FileIndex) (held : List Having) → IsOwn index held → index.whole ≡ true → are_rising no_of_held held ≡ true
-own_rises index held h w = sym (rise_own held) ∙ (h w).0
+own_rises index held h w = standing_rises at_own own_stands index held h w
 
-numbered_own : (number : PathNo) (held : List Having) → list_any (is_numbered no_of_issued number) (map at_own held) ≡ list_any (is_numbered no_of_held number) held
-numbered_own number [] = refl
-numbered_own number (h ∷ hs) = ap (λ b. is_numbered no_of_held number h || b) (numbered_own number hs)
+pub via_rises : (index : FileIndex) (held : List Having) → IsVia index held → index.whole ≡ true → are_rising no_of_held held ≡ true
+via_rises index held h w = standing_rises lease_of via_stands index held h w
 
-put_own : (h : Having) (held : List Having) → map at_own (with_held h held) ≡ with_issued (at_own h) (map at_own held)
-put_own h [] = refl
-put_own h (x ∷ xs) = by (path_before (lease_of h).no (lease_of x).no) (put_own h xs)
-  where
-    by : (b : Bool) → map at_own (with_held h xs) ≡ with_issued (at_own h) (map at_own xs)
-        → map at_own (cond b (h ∷ x ∷ xs) (x ∷ with_held h xs)) ≡ cond b (at_own h ∷ at_own x ∷ map at_own xs) (at_own x ∷ with_issued (at_own h) (map at_own xs))
-    by true e = refl
-    by false e = ap (λ ys. at_own x ∷ ys) e
+-- and so do those at each file
+pub own_names_rise : (index : FileIndex) (held : List Having) → IsOwn index held → index.whole ≡ true → AreRisingAt index.files
+own_names_rise index held h w = over_rises index (map at_own held) h w
 
-remove_own : (held : List Having) (i : ℕ) → map at_own (remove held i) ≡ remove (map at_own held) i
-remove_own [] zero = refl
-remove_own [] (suc i) = refl
-remove_own (x ∷ xs) zero = refl
-remove_own (x ∷ xs) (suc i) = ap (λ ys. at_own x ∷ ys) (remove_own xs i)
-
-there_own : (held : List Having) (i : ℕ) (d : Having) → get_or (map at_own held) i (at_own d) ≡ at_own (get_or held i d)
-there_own [] i d = refl
-there_own (x ∷ xs) zero d = refl
-there_own (x ∷ xs) (suc i) d = there_own xs i d
-
-long_own : (held : List Having) → length (map at_own held) ≡ length held
-long_own [] = refl
-long_own (x ∷ xs) = ap suc (long_own xs)
-
--- one that is leaving stands where it stood
-pub left_own : (asked : Having → Bool) (held : List Having) → map at_own (map (asked_back asked) held) ≡ map at_own held
-left_own asked [] = refl
-left_own asked (h ∷ hs) = by (asked h) ∙ ap (λ ys. at_own h ∷ ys) (left_own asked hs)
-  where
-    by : (b : Bool) → at_own (cond b (leaving h) h) ∷ map at_own (map (asked_back asked) hs) ≡ at_own h ∷ map at_own (map (asked_back asked) hs)
-    by true = refl
-    by false = refl
-
-set_own : (held : List Having) (i : ℕ) (d : Having) → d ≡ get_or held i d → map at_own (slice_set held i (leaving d)) ≡ map at_own held
-set_own [] i d e = refl
-set_own (x ∷ xs) zero d e = ap (λ (h : Having). at_own h ∷ map at_own xs) e
-set_own (x ∷ xs) (suc i) d e = ap (λ ys. at_own x ∷ ys) (set_own xs i d e)
-
--- ## The index
+pub via_names_rise : (index : FileIndex) (held : List Having) → IsVia index held → index.whole ≡ true → AreRisingAt index.files
+via_names_rise index held h w = over_rises index (map lease_of held) h w
 
 -- the one at the place is leaving
-pub leaving_own : (held : List Having) (i : ℕ) (d : Having) (index : FileIndex) → IsOwn index held → d ≡ get_or held i d → IsOwn index (slice_set held i (leaving d))
-leaving_own held i d index h e = subst (λ ls. IsOver index ls) (sym (set_own held i d e)) h
+pub leaving_had : (held : List Having) (i : ℕ) (d : Having) (had : HeldIndex) → IsHad had held → d ≡ get_or held i d → IsHad had (slice_set held i (leaving d))
+leaving_had held i d had h e = (leaving_standing at_own own_stands held i d had.own h.0 e, leaving_standing lease_of via_stands held i d had.via h.1 e)
+
+-- those that are asked back are
+pub still_had : (asked : Having → Bool) (held : List Having) (had : HeldIndex) → IsHad had held → IsHad had (map (asked_back asked) held)
+still_had asked held had h = (still_standing at_own own_stands asked held had.own h.0, still_standing lease_of via_stands asked held had.via h.1)
 
 -- one lease more is noted
-pub noted_own : (new : Having) (is_new : Bool) (held : List Having) (old now : FileIndex) → IsOwn old held → IsNewAmong no_of_held (lease_of new).no held is_new → IsNoted is_new (named_to_peer (lease_of new)) ((lease_of new).file ∷ []) old now → IsOwn now (with_held new held)
-noted_own new is_new held old now h fresh noted =
-    subst (λ ls. IsOver now ls) (sym (put_own new held))
-    (noted_over (at_own new) is_new (map at_own held) old now h (λ e. numbered_own (lease_of new).no held ∙ fresh e) noted)
+pub noted_had : (new : Having) (is_new : Bool) (held : List Having) (old now : HeldIndex) → IsHad old held → IsNewAmong no_of_held (lease_of new).no held is_new
+    → IsNoted is_new (named_to_peer (lease_of new)) ((lease_of new).file ∷ []) old.own now.own → IsNoted is_new (named_to_peer (lease_of new)) (lease_of new).path old.via now.via
+    → IsHad now (with_held new held)
+noted_had new is_new held old now h fresh own via =
+    (noted_standing at_own own_stands new is_new held old.own now.own h.0 fresh own, noted_standing lease_of via_stands new is_new held old.via now.via h.1 fresh via)
 
--- the one at the place is forgotten at its own file
-pub forgot_own : (held : List Having) (i : ℕ) (d : Having) (old now : FileIndex) → IsOwn old held → i < length held → d ≡ get_or held i d → now.whole ≡ old.whole → (old.whole ≡ true → ChangesAmong (without_named (lease_of d).no) ((lease_of d).file ∷ []) old.files now.files) → IsOwn now (remove held i)
-forgot_own held i d old now h l e same change w =
-    let before : old.whole ≡ true = sym same ∙ w in
-    let there : get_or (map at_own held) i (at_own d) ≡ at_own d = there_own held i d ∙ ap at_own (sym e) in
-    subst (λ ls. IsOver now ls) (sym (remove_own held i))
-    (forgot_over (lease_of d).no (map at_own held) i (at_own d) old now h before (subst (λ n. i < n) (sym (long_own held)) l)
-    (ap (has_no (lease_of d).no) there ∙ same_no_self (lease_of d).no) same
-    (subst (λ (x : PathLease). ChangesAmong (without_named (lease_of d).no) x.path old.files now.files) (sym there) (change before))) w
-
-pub still_own : (asked : Having → Bool) (held : List Having) (index : FileIndex) → IsOwn index held → IsOwn index (map (asked_back asked) held)
-still_own asked held index h = subst (λ ls. IsOver index ls) (sym (left_own asked held)) h
+-- the one at the place is forgotten
+pub forgot_had : (held : List Having) (i : ℕ) (d : Having) (old now : HeldIndex) → IsHad old held → i < length held → d ≡ get_or held i d
+    → now.own.whole ≡ old.own.whole → now.via.whole ≡ old.via.whole
+    → (old.own.whole ≡ true → ChangesAmong (without_named (lease_of d).no) ((lease_of d).file ∷ []) old.own.files now.own.files)
+    → (old.via.whole ≡ true → ChangesAmong (without_named (lease_of d).no) (lease_of d).path old.via.files now.via.files)
+    → IsHad now (remove held i)
+forgot_had held i d old now h l e own_whole via_whole own via = (
+  forgot_standing at_own own_stands held i d old.own now.own h.0 l e own_whole own,
+  forgot_standing lease_of via_stands held i d old.via now.via h.1 l e via_whole via,
+)
 
 -- ## By number
 
@@ -182,7 +236,7 @@ recalls_none number issued held e = same_recalls _ (λ l. false) issued (λ l. n
 
 -- ## By file
 
-names_own : (file : List ℕ) (held : List Having) → recalls (goes_over file) (map at_own held) ≡ map (λ h. named_to_peer (lease_of h)) (filter (λ h. same (lease_of h).file file) held)
+pub names_own : (file : List ℕ) (held : List Having) → recalls (goes_over file) (map at_own held) ≡ map (λ h. named_to_peer (lease_of h)) (filter (λ h. same (lease_of h).file file) held)
 names_own file [] = refl
 names_own file (h ∷ hs) = ap (λ b. map named_to_peer (cond b (at_own h ∷ filter (goes_over file) (map at_own hs)) (filter (goes_over file) (map at_own hs)))) (or-false (same (lease_of h).file file)) ∙ by (same (lease_of h).file file) (names_own file hs)
   where
@@ -192,7 +246,7 @@ names_own file (h ∷ hs) = ap (λ b. map named_to_peer (cond b (at_own h ∷ fi
     by false e = e
 
 -- each is found by its number
-found_own : (held : List Having) (x : Having) → are_rising no_of_held held ≡ true → In x held → find (is_of (lease_of x).no) held ≡ Some x
+pub found_own : (held : List Having) (x : Having) → are_rising no_of_held held ≡ true → In x held → find (is_of (lease_of x).no) held ≡ Some x
 found_own [] x o i = absurd i
 found_own (h ∷ hs) x o (inl q) = ap (λ b. cond b (Some h) (find (is_of (lease_of x).no) hs)) (ap (λ y. same_path_no (lease_of h).no (lease_of y).no) q ∙ same_no_self (lease_of h).no) ∙ ap Some (sym q)
 found_own (h ∷ hs) x o (inr i) =

@@ -104,7 +104,7 @@ falls key m (x ∷ xs) o zero (suc j) d l n h =
 falls key m (x ∷ xs) o (suc i) zero d l n h = absurd (omega arith)
 falls key m (x ∷ xs) o (suc i) (suc j) d l n h = falls key m xs (both (first key (key x) xs) (are_rising key xs) o).1 i j d (omega arith) (omega arith) h
 
-flip : (a b : Bool) → (b ≡ true → a ≡ true) → not a ≡ true → not b ≡ true
+pub flip : (a b : Bool) → (b ≡ true → a ≡ true) → not a ≡ true → not b ≡ true
 flip true b h k = absurd (cc)
 flip false true h k = let wrong : false ≡ true = h refl in absurd (cc)
 flip false false h k = refl
@@ -148,7 +148,7 @@ at_end test (x ∷ xs) h = elim (test x) as (λ b. (b || list_any test xs) ≡ f
 pub no_place : {X : Type 0} (test : X → Bool) (xs : List X) → list_any test xs ≡ false → position test xs ≡ None
 no_place test xs h = ap (λ n. cond (nat_lt n (length xs)) (Some n) None) (at_end test xs h) ∙ ap (λ b. cond b (Some (length xs)) None) (none_below (length xs))
 
-none_behind : {X : Type 0} (key : X → PathNo) (m : PathNo) (xs : List X) → first key m xs ≡ true → list_any (is_numbered key m) xs ≡ false
+pub none_behind : {X : Type 0} (key : X → PathNo) (m : PathNo) (xs : List X) → first key m xs ≡ true → list_any (is_numbered key m) xs ≡ false
 none_behind key m [] h = refl
 none_behind key m (x ∷ xs) h =
     let q = both (path_before m (key x)) (first key m xs) h in
@@ -195,17 +195,21 @@ unplaced key m xs i p l = no_place (is_numbered key m) xs (unlike_all key m xs i
 
 -- ## Where a greater number begins
 
-place_there : {X : Type 0} (key : X → PathNo) (m : PathNo) (xs : List X) (i : ℕ) → i ≤ length xs → ((k : ℕ) (d : X) → k < i → k < length xs → not (path_before m (key (get_or xs k d))) ≡ true) → ((k : ℕ) (d : X) → i ≤ k → k < length xs → not (path_before m (key (get_or xs k d))) ≡ false) → position_or_len (λ (x : X). path_before m (key x)) xs ≡ i
-place_there key m [] zero l f b = refl
-place_there key m [] (suc i) l f b = absurd (omega arith)
-place_there {X} key m (y ∷ ys) zero l f b = ap (λ t. cond t (1 + position_or_len (λ (x : X). path_before m (key x)) ys) 0) (b 0 y (omega arith) (omega arith))
-place_there {X} key m (y ∷ ys) (suc i) l f b =
-    ap (λ t. cond t (1 + position_or_len (λ (x : X). path_before m (key x)) ys) 0) (f 0 y (omega arith) (omega arith))
-    ∙ ap (λ n. 1 + n) (place_there key m ys i (omega arith) (λ k d g n. f (suc k) d (omega arith) (omega arith)) (λ k d g n. b (suc k) d (omega arith) (omega arith)))
+place_there : {X : Type 0} (test : X → Bool) (xs : List X) (i : ℕ) → i ≤ length xs → ((k : ℕ) (d : X) → k < i → k < length xs → not (test (get_or xs k d)) ≡ true) → ((k : ℕ) (d : X) → i ≤ k → k < length xs → not (test (get_or xs k d)) ≡ false) → position_or_len test xs ≡ i
+place_there test [] zero l f b = refl
+place_there test [] (suc i) l f b = absurd (omega arith)
+place_there test (y ∷ ys) zero l f b = ap (λ t. cond t (1 + position_or_len test ys) 0) (b 0 y (omega arith) (omega arith))
+place_there test (y ∷ ys) (suc i) l f b =
+    ap (λ t. cond t (1 + position_or_len test ys) 0) (f 0 y (omega arith) (omega arith))
+    ∙ ap (λ n. 1 + n) (place_there test ys i (omega arith) (λ k d g n. f (suc k) d (omega arith) (omega arith)) (λ k d g n. b (suc k) d (omega arith) (omega arith)))
     ∙ one_more i
 
+-- where none before it passes a test, and all from it on do, it is the place of the first that passes
+pub placed_by : {X : Type 0} (test : X → Bool) (xs : List X) (i : ℕ) → i ≤ length xs → IsPartitionPoint (λ (x : X). not (test x) ≡ true) (λ (x : X). not (test x) ≡ false) xs i → i ≡ unwrap_or (position test xs) (length xs)
+placed_by test xs i l p = sym (place_is test xs ∙ place_there test xs i l (λ k d g n. p.0 k d (omega arith) g) (λ k d g n. p.1 k d g n))
+
 pub placed : {X : Type 0} (key : X → PathNo) (m : PathNo) (xs : List X) (i : ℕ) → i ≤ length xs → IsPartitionPoint (λ (x : X). not (path_before m (key x)) ≡ true) (λ (x : X). not (path_before m (key x)) ≡ false) xs i → i ≡ unwrap_or (position (λ (x : X). path_before m (key x)) xs) (length xs)
-placed {X} key m xs i l p = sym (place_is (λ (x : X). path_before m (key x)) xs ∙ place_there key m xs i l (λ k d g n. p.0 k d (omega arith) g) (λ k d g n. p.1 k d g n))
+placed {X} key m xs i l p = placed_by (λ (x : X). path_before m (key x)) xs i l p
 
 -- ## What there is of a number
 
@@ -310,7 +314,7 @@ rising_filter key test (x ∷ xs) h =
       | false ↦ rising_filter key test xs q.1
     ]
 
-put_passes : {X : Type 0} (test greater : X → Bool) (new : X) (xs : List X) → test new ≡ true → list_all test xs ≡ true → list_all test (put_before greater new xs) ≡ true
+pub put_passes : {X : Type 0} (test greater : X → Bool) (new : X) (xs : List X) → test new ≡ true → list_all test xs ≡ true → list_all test (put_before greater new xs) ≡ true
 put_passes test greater new [] t h = ap (λ b. b && true) t
 put_passes test greater new (x ∷ xs) t h =
     let q = both (test x) (list_all test xs) h in

@@ -1,5 +1,5 @@
 -- The walk from a file up to the root.
-use Rattle.std.proofs.Common.{◌≡◌, ◌∙◌, ℕ, zero, suc, ◌+◌, Bool, true, false, not, List, [], ◌∷◌, ◌++◌, refl, sym, ap, cond, length, inl, inr}
+use Rattle.std.proofs.Common.{◌≡◌, ◌∙◌, ℕ, zero, suc, Bool, true, false, not, List, [], ◌∷◌, ◌++◌, refl, sym, ap, cond, length, inl, inr}
 use Rattle.std.specs.Prelude.{◌&&◌, Option, Some, None, is_some, option_map}
 use Rattle.std.specs.FinMap.{get, keys}
 use Rattle.std.specs.List.{filter}

@@ -1,20 +1,18 @@
 -- Leases by file, beside the list that has them in order of number.
 use Rattle.std.specs.Prelude.{◌≡◌, ℕ, Bool, true, false, not, ◌&&◌, List, [], ◌∷◌, map, Option, Some, None, if◌then◌else◌}
-use Rattle.std.specs.BTreeMap.{BTreeMap}
-use Rattle.std.specs.FinMap.{get}
 use Rattle.std.specs.List.{filter, find, list_all, list_any}
-use Rattle.fs_ident.specs.Ident.{same}
-use Rattle.fs_ident.specs.Maps.{map_of}
 use Rattle.fs_ident.specs.Ordered.{Keyed, put_before}
 use Rattle.fs_ident.specs.declared.actor.PathNo.{PathNo}
 use Rattle.fs_map.specs.Map.{Owners, begins, is_given}
+use Rattle.fs_path.specs.ByFile.{FilesOf, listed_at}
 use Rattle.fs_path.specs.Leases.{PathLease, goes_over, lesser_no, path_before, same_path_no}
 use Rattle.fs_path.specs.Returns.{is_of, recalls}
 use Rattle.fs_path.specs.Tables.{lease_of}
-use Rattle.fs_path.specs.Walk.{is_among}
 use Rattle.fs_path.specs.declared.having.Having.{Having}
 use Rattle.fs_path.specs.declared.having.Having.TheVariants.{Held, Leaving}
+use Rattle.fs_path.specs.declared.held_index.HeldIndex.{HeldIndex}
 use Rattle.fs_path.specs.declared.index.FileIndex.{FileIndex}
+pub use Rattle.fs_path.specs.ByFile.{ChangesAmong, ChangesAt, listed}
 
 -- ## Numbers
 
@@ -38,15 +36,10 @@ is_numbered key number x = same_path_no (key x) number
 
 -- the leases of each file, named to their peers
 abbrev pub ByFile : Type 0
-ByFile = BTreeMap (List ℕ) (List (ℕ × PathNo))
-
--- nothing where there is no list
-abbrev pub listed : Option (List (ℕ × PathNo)) → List (ℕ × PathNo)
-listed None = []
-listed (Some names) = names
+ByFile = FilesOf (ℕ × PathNo)
 
 abbrev pub named_at : ByFile → List ℕ → List (ℕ × PathNo)
-named_at files file = listed (get (map_of files) file)
+named_at files file = listed_at files file
 
 -- one name more, before the first with a greater number
 abbrev pub with_named : ℕ × PathNo → List (ℕ × PathNo) → List (ℕ × PathNo)
@@ -55,14 +48,6 @@ with_named name names = put_before (λ n. path_before name.1 n.1) name names
 -- all but those of the number
 abbrev pub without_named : PathNo → List (ℕ × PathNo) → List (ℕ × PathNo)
 without_named number names = filter (λ n. not (same_path_no n.1 number)) names
-
--- the names at this file change so, and those at others do not
-abbrev pub ChangesAt : (List (ℕ × PathNo) → List (ℕ × PathNo)) → List ℕ → ByFile → ByFile → Type 0
-ChangesAt change file old new = (f : List ℕ) → named_at new f ≡ if same f file then change (named_at old f) else named_at old f
-
--- so it is at each of these files
-abbrev pub ChangesAmong : (List (ℕ × PathNo) → List (ℕ × PathNo)) → List (List ℕ) → ByFile → ByFile → Type 0
-ChangesAmong change files old new = (f : List ℕ) → named_at new f ≡ if is_among f files then change (named_at old f) else named_at old f
 
 -- the name is more at the file, unless it was met
 abbrev pub AddsUnmet : ℕ × PathNo → Bool → List ℕ → ByFile → ByFile → Type 0
@@ -113,6 +98,13 @@ at_own h = record { no = (lease_of h).no; peer = (lease_of h).peer; file = (leas
 -- while the index is whole each of them stands in it, at its own file alone, and their numbers rise
 abbrev pub IsOwn : FileIndex → List Having → Type 0
 IsOwn index held = IsOver index (map at_own held)
+
+-- and each of them at the files of its path
+abbrev pub IsVia : FileIndex → List Having → Type 0
+IsVia index held = IsOver index (map lease_of held)
+
+abbrev pub IsHad : HeldIndex → List Having → Type 0
+IsHad index held = IsOwn index.own held × IsVia index.via held
 
 -- the lease of the number, where it may be used
 abbrev pub if_used : Option Having → Option Having

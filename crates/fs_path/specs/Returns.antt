@@ -1,5 +1,5 @@
 -- Leases that are asked back and go back: those from others go as soon as no path that was given out rests on them.
-use Rattle.std.specs.Prelude.{ℕ, Bool, not, ◌&&◌, ◌||◌, List, [], ◌∷◌, map, Option, Some, None, option_map, if◌then◌else◌}
+use Rattle.std.specs.Prelude.{◌≡◌, ℕ, Bool, false, not, ◌&&◌, ◌||◌, List, [], ◌∷◌, map, Option, Some, None, option_map, if◌then◌else◌}
 use Rattle.std.specs.List.{filter, find, list_any}
 use Rattle.fs_field.specs.Table.{same_txn}
 use Rattle.fs_ident.specs.declared.actor.PathNo.{PathNo}
@@ -23,6 +23,10 @@ asked_back asked h = if asked h then leaving h else h
 -- it is asked back, and no path that was given out needs it
 abbrev pub goes_back : (Having → Bool) → List PathLease → Having → Bool
 goes_back asked issued h = asked h && not (is_needed issued h)
+
+-- each one that is leaving is needed: so it is between two calls
+abbrev pub AreNeeded : List PathLease → List Having → Type 0
+AreNeeded issued held = list_any (goes_back is_leaving issued) held ≡ false
 
 -- the leases that go back, as their servers are told
 abbrev pub releases : (Having → Bool) → List PathLease → List Having → List (ℕ × PathNo)

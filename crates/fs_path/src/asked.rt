@@ -76,7 +76,7 @@ pub(crate) fn is_needed(issued: &[Issued], over: &FileIndex, h: &Having) -> bool
 }
 
 /// Whether one of these paths goes over the file.
-fn any_over(issued: &[Issued], over: &FileIndex, file: &FileId) -> bool
+pub(crate) fn any_over(issued: &[Issued], over: &FileIndex, file: &FileId) -> bool
     requires { IsOver over.now issued.now }
     ensures { result ≡ list_any (goes_over file.now) issued.now }
 {

@@ -52,7 +52,7 @@ impl Having {
     }
 
     /// The files from the root down to its own.
-    fn path(&self) -> &List<FileId>
+    pub fn path(&self) -> &List<FileId>
         ensures { result.now ≡ (lease_of self.now).path }
     {
         match self {

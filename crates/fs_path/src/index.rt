@@ -7,9 +7,13 @@ ghost use Rattle.std.specs.Option.{option_copied};
 ghost use Rattle.fs_ident.specs.Maps.{map_of};
 ghost use Rattle.fs_path.specs.Leases.{lesser_no, path_before};
 ghost use Rattle.fs_path.specs.Walk.{is_among};
+ghost use Rattle.fs_path.specs.Into.{given_names, names_into};
+ghost use Rattle.fs_path.specs.Merged.{with_each};
 ghost use Rattle.fs_path.specs.Index.{AddsUnmet, AreRisingAt, ChangesAmong, ChangesAt, IsNoted, IsOver, are_rising, first_named, is_numbered, least_into, named_at, no_of_named, number_into, with_named, without_named};
 
+use crate::by_file::{items_at, put_first, take_file};
 use crate::files::{goes_over, is_given};
+use crate::merging::put_each;
 use fs_ident::{FileId, List, Memory, PathNo, Twin, copy_map};
 use fs_map::FileMap;
 use std::alloc::Global;
@@ -57,10 +61,7 @@ impl FileIndex {
     pub(crate) fn at(&self, file: &FileId) -> &[(u8, PathNo)]
         ensures { result.now ≡ named_at self.now.files file.now }
     {
-        match found(&self.files, file) {
-            Some(names) => names.as_slice(),
-            None => &[],
-        }
+        items_at(&self.files, file)
     }
 
     /// The least number at the files below the prefix that are `me`'s.
@@ -68,6 +69,27 @@ impl FileIndex {
         ensures { result ≡ least_into map.now me prefix.now (entries (map_of self.now.files)) }
     {
         least_into(&self.files, map, me, prefix)
+    }
+
+    /// The names at the files below the prefix that are `me`'s, in order of number, each once.
+    pub(crate) fn names_into(
+        &self,
+        alloc: Global,
+        map: &FileMap,
+        me: u8,
+        prefix: &FileId,
+    ) -> Result<List<(u8, PathNo)>, Memory>
+        ensures { IfOk result (λ names. names ≡
+            names_into map.now me prefix.now (entries (map_of self.now.files))) }
+    {
+        names_into(alloc, &self.files, map, me, prefix)
+    }
+
+    /// The names at each file.
+    pub(crate) fn files(&self) -> &BTreeMap<FileId, List<(u8, PathNo)>>
+        ensures { result.now ≡ self.now.files }
+    {
+        &self.files
     }
 
     /// One lease more at each of the files. It is not whole any more where the number is no new one, or when out of
@@ -131,6 +153,47 @@ fn number_into(
         first_no(names.as_slice())
     } else {
         None
+    }
+}
+
+/// The names at the files below the prefix that are `me`'s, in order of number, each once.
+fn names_into(
+    alloc: Global,
+    by_file: &BTreeMap<FileId, List<(u8, PathNo)>>,
+    map: &FileMap,
+    me: u8,
+    prefix: &FileId,
+) -> Result<List<(u8, PathNo)>, Memory>
+    ensures { IfOk result (λ names. names ≡
+        names_into map.now me prefix.now (entries (map_of by_file.now))) }
+{
+    let mut list = List::new(alloc);
+    for entry in by_file.range(prefix..) {
+        if !entry.0.begins(prefix) {
+            return Ok(list);
+        }
+        put_given(&mut list, map, me, prefix, entry.0, entry.1)?;
+    }
+    Ok(list)
+}
+
+/// The names at the file join the others, where it is below the prefix and `me`'s.
+fn put_given(
+    list: &mut List<(u8, PathNo)>,
+    map: &FileMap,
+    me: u8,
+    prefix: &FileId,
+    file: &FileId,
+    names: &List<(u8, PathNo)>,
+) -> Result<(), Memory>
+    requires { are_rising no_of_named list.old ≡ true }
+    ensures { OnOk result (list.new ≡
+        with_each (given_names map.now me prefix.now (file.now, names.now)) list.old) }
+{
+    if is_given(map, me, prefix, file) {
+        put_each(list, names.as_slice())
+    } else {
+        Ok(())
     }
 }
 
@@ -203,10 +266,7 @@ fn add_at(
 {
     match by_file.get_mut(file) {
         Some(names) => put_name(names.items_mut(), name),
-        None => {
-            let first = first_name(alloc, name)?;
-            put_file(by_file, file.copy(alloc)?, first)
-        }
+        None => put_first(alloc, by_file, file, name),
     }
 }
 
@@ -216,38 +276,8 @@ fn forget_at(by_file: &mut BTreeMap<FileId, List<(u8, PathNo)>>, file: &FileId, 
     ensures { ChangesAt (without_named no) file.now by_file.old by_file.new }
 {
     if thin(by_file, file, no) {
-        by_file.remove(file);
+        take_file(by_file, file);
     }
-}
-
-#[tactic(auto, using(fs_ident::proofs::MapsOf::maps))]
-fn found<'a>(
-    by_file: &'a BTreeMap<FileId, List<(u8, PathNo)>>,
-    file: &FileId,
-) -> Option<&'a List<(u8, PathNo)>>
-    ensures { option_copied result ≡ get (map_of by_file.now) file.now }
-{
-    by_file.get(file)
-}
-
-fn first_name(alloc: Global, name: (u8, PathNo)) -> Result<List<(u8, PathNo)>, Memory>
-    ensures { IfOk result (λ names. names ≡ with_named name []) }
-{
-    let mut names = List::new(alloc);
-    names.push(name)?;
-    Ok(names)
-}
-
-#[tactic(auto, using(fs_ident::proofs::MapsOf::maps))]
-fn put_file(
-    by_file: &mut BTreeMap<FileId, List<(u8, PathNo)>>,
-    file: FileId,
-    names: List<(u8, PathNo)>,
-) -> Result<(), Memory>
-    ensures { OnOk result (map_of by_file.new ≡ insert (map_of by_file.old) file names) }
-{
-    by_file.insert(file, names)?;
-    Ok(())
 }
 
 /// Takes the lease of the number off the file, and tells whether none is left there.
@@ -266,7 +296,7 @@ fn thin(by_file: &mut BTreeMap<FileId, List<(u8, PathNo)>>, file: &FileId, no: P
 }
 
 /// Puts the name before the first with a greater number.
-fn put_name(names: &mut Vec<(u8, PathNo)>, name: (u8, PathNo)) -> Result<(), Memory>
+pub(crate) fn put_name(names: &mut Vec<(u8, PathNo)>, name: (u8, PathNo)) -> Result<(), Memory>
     requires { are_rising no_of_named names.old.items ≡ true }
     ensures { OnOk result (names.new.items ≡ with_named name names.old.items) }
 {
@@ -276,7 +306,7 @@ fn put_name(names: &mut Vec<(u8, PathNo)>, name: (u8, PathNo)) -> Result<(), Mem
 }
 
 /// Where the first with a greater number stands, or the length.
-fn place_behind(names: &[(u8, PathNo)], no: PathNo) -> usize
+pub(crate) fn place_behind(names: &[(u8, PathNo)], no: PathNo) -> usize
     requires { are_rising no_of_named names.now ≡ true }
     ensures place { result ≡ unwrap_or (position (λ n. path_before no n.1) names.now)
         (length names.now) }
@@ -299,7 +329,7 @@ fn take_name(names: &mut Vec<(u8, PathNo)>, no: PathNo)
 }
 
 /// Where the name of the number stands.
-fn place_of_name(names: &[(u8, PathNo)], no: PathNo) -> Option<usize>
+pub(crate) fn place_of_name(names: &[(u8, PathNo)], no: PathNo) -> Option<usize>
     requires { are_rising no_of_named names.now ≡ true }
     ensures { result ≡ position (is_numbered no_of_named no) names.now }
 {

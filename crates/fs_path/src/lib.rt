@@ -1,31 +1,39 @@
 //! Path leases: a server that has a file's directory hands the path from the root to the file down to the server that has the file,
 //! and asks it back before a file on it moves.
 //!
-//! Leases stand in order of number, those given out also at each file of their paths, and those from other servers at their own
-//! file. So a call costs what it names: `issued_to`, `holds` and a lease that is asked back by its number a search by halves, `through`
-//! one look-up of the file, `recall_through` and `recalled` besides it what they tell, `path_of` one of the topmost file here, `issue`
-//! and `granted` such a search and a look-up of each file that the lease stands at, and moving up what stands behind in a list. Whether a
-//! path goes over a file is one look-up wherever it is asked. The least lease given out into a part of the files costs the files there.
-//! Those from other servers are gone through one after another where one that was given out is back, and for the least into a part of
-//! the files; so are all, where that part changes servers. `freeze`, `thaw` and `frozen` go through the files that transactions keep.
+//! Leases stand in order of number. Those given out stand also at each file of their paths, those from other servers at their own file
+//! and at each file of their paths, and files that transactions keep in order of transaction and each with the transactions that keep
+//! it. So a call costs what it names: `issued_to`, `holds` and a lease that is asked back by its number a search by halves, `through`
+//! and `frozen` one look-up of the file, `recall_through` and `recalled` besides it what they tell, `path_of` two of each file on the
+//! way, `issue` and `granted` such a search and a look-up of each file that the lease stands at, `released` one of each file of its
+//! path, and `freeze` and `thaw` one of each file that they name. `first_in` and `recall_in` cost the files of the part that paths go
+//! over, with what is told. What comes or goes in the middle of a list moves what stands behind it, and looks at none of it. Whether a
+//! path goes over a file is one look-up wherever it is asked. A leaving lease is always one that a path which was given out needs, so
+//! nothing else is looked at when one is back.
 //! Where memory was wanting for an index, or one number came twice, every call that would use it goes through all.
 #![tactic(auto)]
 
 mod asked;
+mod by_file;
 mod entering;
 mod files;
 mod giving;
 mod having;
 mod held;
+mod held_index;
 mod index;
+mod into;
 mod issued;
+mod kept;
 mod law;
 mod leaving;
+mod merging;
 mod number;
 mod numbered;
 mod paths;
 mod reads;
 mod recalled;
+mod returning;
 mod rise;
 mod used;
 mod walk;

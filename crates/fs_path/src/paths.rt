@@ -7,15 +7,16 @@ ghost use Rattle.fs_path.specs.Tables.{first_in, frozen_for, holds, is_leaving, 
 ghost use Rattle.fs_path.specs.Walk.{path_of};
 ghost use Rattle.fs_path.specs.declared.having.Having.TheVariants.{Held as IsHeld};
 
-use crate::asked::Asked;
-use crate::entering::{issue, put_all_frozen, take_held};
-use crate::giving::{self, drop_issued, recalls_over};
+use crate::entering::{issue, take_held};
+use crate::giving::{self, recalls_over};
 use crate::having::Having;
 use crate::held::Held;
+use crate::held_index::HeldIndex;
 use crate::index::{FileIndex, lesser};
 use crate::issued::Issued;
+use crate::kept::KeptIndex;
 use crate::recalled::{GiveBack, Recalled};
-use crate::{reads, walk};
+use crate::{into, kept, reads, returning, walk};
 use fs_field::PathAnswer;
 use fs_ident::{FileId, List, Memory, PathNo, Twin, TxnNo, copy_two};
 use fs_map::FileMap;
@@ -32,19 +33,24 @@ pub struct Paths {
     frozen: List<(FileId, TxnNo)>,
     /// Those given out, by the files of their paths.
     over: FileIndex,
-    /// Those from other servers, each by its own file.
-    own: FileIndex,
+    /// Those from other servers, by their own files and by the files of their paths.
+    had: HeldIndex,
+    /// The files that transactions keep, by file.
+    kept: KeptIndex,
 }
 
 impl Model for Paths {
-    ghost use Rattle.fs_path.specs.Index.{IsOver, IsOwn};
+    ghost use Rattle.fs_path.specs.Index.{IsHad, IsOver};
+    ghost use Rattle.fs_path.specs.Kept.{IsKept};
+    ghost use Rattle.fs_path.specs.Returns.{AreNeeded};
     ghost use Rattle.fs_path.specs.Tables.{PathTables};
 
     ghost Value = { PathTables };
 
     ghost view = { λ p. record { issued = p.issued; held = p.held; frozen = p.frozen } };
 
-    ghost invariant = { λ p. IsOver p.over p.issued × IsOwn p.own p.held };
+    ghost invariant = { λ p. IsOver p.over p.issued × IsHad p.had p.held ×
+        AreNeeded p.issued p.held × IsKept p.kept p.frozen };
 }
 
 impl Paths {
@@ -57,7 +63,8 @@ impl Paths {
             held: List::new(alloc),
             frozen: List::new(alloc),
             over: FileIndex::new(alloc),
-            own: FileIndex::new(alloc),
+            had: HeldIndex::new(alloc),
+            kept: KeptIndex::new(alloc),
         }
     }
 
@@ -75,8 +82,9 @@ impl Paths {
         walk::path_of(
             alloc,
             self.held.as_slice(),
-            &self.own,
+            &self.had,
             self.frozen.as_slice(),
+            &self.kept,
             records,
             file,
         )
@@ -126,10 +134,11 @@ impl Paths {
         let (own, files) = copy_two(alloc, file, path)?;
         take_held(
             self.held.items_mut(),
-            &mut self.own,
+            &mut self.had,
             alloc,
             Having::Held(Held::new(from, no, own, files)),
             file,
+            path,
         )
     }
 
@@ -146,7 +155,7 @@ impl Paths {
     {
         lesser(
             reads::first_issued(self.issued.as_slice(), &self.over, map, me, prefix),
-            reads::first_held(self.held.as_slice(), map, me, prefix),
+            reads::first_held(self.held.as_slice(), &self.had.via, map, me, prefix),
         )
     }
 
@@ -161,7 +170,7 @@ impl Paths {
     pub fn recall_of(&self, alloc: Global, no: PathNo) -> Result<Recalled, Memory>
         ensures { IfOk result (λ r. r ≡ recalled no self.now) }
     {
-        let Some(to) = reads::held_from(self.held.as_slice(), &self.own, no) else {
+        let Some(to) = reads::held_from(self.held.as_slice(), &self.had, no) else {
             return Ok(Recalled::Unheld);
         };
         let down = giving::recalls_under(
@@ -169,7 +178,7 @@ impl Paths {
             self.issued.as_slice(),
             &self.over,
             self.held.as_slice(),
-            &self.own,
+            &self.had,
             no,
         )?;
         Ok(Recalled::first_down(to, down))
@@ -182,7 +191,7 @@ impl Paths {
     {
         giving::give_one_back(
             self.held.items_mut(),
-            &mut self.own,
+            &mut self.had,
             self.issued.as_slice(),
             &self.over,
             no,
@@ -196,7 +205,7 @@ impl Paths {
         ensures state { OnOk result (self.new ≡ after_recalled no self.old) }
         ensures err { OnErr result (self.new ≡ self.old) }
     {
-        let Some(to) = reads::held_from(self.held.as_slice(), &self.own, no) else {
+        let Some(to) = reads::held_from(self.held.as_slice(), &self.had, no) else {
             return Ok(Recalled::Unheld);
         };
         let down = giving::recalls_under(
@@ -204,12 +213,12 @@ impl Paths {
             self.issued.as_slice(),
             &self.over,
             self.held.as_slice(),
-            &self.own,
+            &self.had,
             no,
         )?;
         giving::give_one_back(
             self.held.items_mut(),
-            &mut self.own,
+            &mut self.had,
             self.issued.as_slice(),
             &self.over,
             no,
@@ -223,11 +232,12 @@ impl Paths {
         ensures { IfOk result (λ list. list ≡
             releases is_leaving (without_no no self.now.issued) self.now.held) }
     {
-        giving::releases_but(
+        returning::releases_with(
             alloc,
             self.issued.as_slice(),
             &self.over,
             self.held.as_slice(),
+            &self.had,
             no,
         )
     }
@@ -237,13 +247,12 @@ impl Paths {
     pub fn release(&mut self, no: PathNo)
         ensures { self.new ≡ after_released no self.old }
     {
-        drop_issued(self.issued.items_mut(), &mut self.over, no);
-        giving::give_back(
+        returning::release(
+            self.issued.items_mut(),
+            &mut self.over,
             self.held.items_mut(),
-            &mut self.own,
-            self.issued.as_slice(),
-            &self.over,
-            &Asked::Leaving,
+            &mut self.had,
+            no,
         );
     }
 
@@ -270,14 +279,25 @@ impl Paths {
     ) -> Result<GiveBack, Memory>
         ensures { IfOk result (λ g. g ≡ give_back map.now me prefix.now self.now) }
     {
-        let asked = Asked::Into(map, me, prefix);
-        let recalls = giving::recalls(alloc, self.issued.as_slice(), self.held.as_slice(), &asked)?;
-        let releases = giving::releases(
+        let recalls = into::recalls_into(
             alloc,
             self.issued.as_slice(),
             &self.over,
             self.held.as_slice(),
-            &asked,
+            &self.had,
+            map,
+            me,
+            prefix,
+        )?;
+        let releases = into::releases_into(
+            alloc,
+            self.issued.as_slice(),
+            &self.over,
+            self.held.as_slice(),
+            &self.had,
+            map,
+            me,
+            prefix,
         )?;
         Ok(GiveBack { recalls, releases })
     }
@@ -286,12 +306,14 @@ impl Paths {
     pub fn ask_back(&mut self, prefix: &FileId, map: &FileMap, me: u8)
         ensures { self.new ≡ after_give_back map.now me prefix.now self.old }
     {
-        giving::give_back(
+        into::ask_back(
             self.held.items_mut(),
-            &mut self.own,
+            &mut self.had,
             self.issued.as_slice(),
             &self.over,
-            &Asked::Into(map, me, prefix),
+            map,
+            me,
+            prefix,
         );
     }
 
@@ -328,21 +350,21 @@ impl Paths {
             record self.old { frozen = with_all_frozen txn files.now self.old.frozen }) }
         ensures err { OnErr result (self.new ≡ self.old) }
     {
-        put_all_frozen(alloc, self.frozen.items_mut(), files, txn)
+        kept::put_all_frozen(alloc, self.frozen.items_mut(), &mut self.kept, files, txn)
     }
 
     /// The transaction keeps no file any more; those of others stay.
     pub fn thaw(&mut self, txn: TxnNo)
         ensures { self.new ≡ record self.old { frozen = without_txn txn self.old.frozen } }
     {
-        thaw(self.frozen.items_mut(), txn);
+        kept::thaw(self.frozen.items_mut(), &mut self.kept, txn);
     }
 
     /// The least transaction that keeps the file.
     pub fn frozen(&self, file: &FileId) -> Option<TxnNo>
         ensures { result ≡ frozen_for file.now self.now.frozen }
     {
-        reads::frozen_for(self.frozen.as_slice(), file)
+        kept::frozen_for(self.frozen.as_slice(), &self.kept, file)
     }
 
     /// The server to which the lease is given out; none exactly where it is not given out here.
@@ -356,7 +378,7 @@ impl Paths {
     pub fn holds(&self, no: PathNo) -> bool
         ensures { result ≡ holds no self.now.held }
     {
-        reads::holds(self.held.as_slice(), &self.own, no)
+        reads::holds(self.held.as_slice(), &self.had, no)
     }
 }
 
@@ -364,7 +386,8 @@ impl Twin for Paths {
     fn copy(&self, alloc: Global) -> Result<Paths, Memory> {
         let frozen = self.frozen.copy(alloc)?;
         let over = self.over.copy(alloc)?;
-        let own = self.own.copy(alloc)?;
+        let had = self.had.copy(alloc)?;
+        let kept = self.kept.copy(alloc)?;
         let issued = self.issued.copy(alloc)?;
         match self.held.copy(alloc) {
             Ok(held) => Ok(Paths {
@@ -372,7 +395,8 @@ impl Twin for Paths {
                 held,
                 frozen,
                 over,
-                own,
+                had,
+                kept,
             }),
             Err(e) => {
                 issued.discard();
@@ -388,19 +412,14 @@ impl Twin for Paths {
             held,
             frozen,
             over,
-            own,
+            had,
+            kept,
         } = self;
         issued.discard();
         held.discard();
         frozen.discard();
         drop(over);
-        drop(own);
+        drop(had);
+        drop(kept);
     }
-}
-
-/// The transaction keeps none of these files any more.
-fn thaw(frozen: &mut Vec<(FileId, TxnNo)>, txn: TxnNo)
-    ensures { frozen.new.items ≡ without_txn txn frozen.old.items }
-{
-    frozen.retain(|kept| kept.1 != txn);
 }

@@ -1,19 +1,17 @@
 //! What is read of the tables.
 ghost use Rattle.std.specs.Prelude.{◌≡◌, true, IfOk, option_map};
 ghost use Rattle.std.specs.List.{find};
-ghost use Rattle.std.specs.Option.{option_copied};
-ghost use Rattle.fs_path.specs.Index.{IsOver, IsOwn, are_rising, no_of_held, no_of_issued};
-ghost use Rattle.fs_path.specs.Leases.{PathLease, goes_into, goes_over, has_no};
+ghost use Rattle.fs_path.specs.Index.{IsHad, IsOver, IsVia, are_rising, no_of_held, no_of_issued};
+ghost use Rattle.fs_path.specs.Leases.{PathLease, goes_into};
 ghost use Rattle.fs_path.specs.Returns.{held_from};
-ghost use Rattle.fs_path.specs.Tables.{frozen_for, holds, issued_to, lease_of, through};
-ghost use Rattle.fs_path.specs.Walk.{used_for};
+ghost use Rattle.fs_path.specs.Tables.{holds, issued_to, lease_of, through};
 
 use crate::having::Having;
+use crate::held_index::HeldIndex;
 use crate::index::{FileIndex, first_no};
 use crate::issued::Issued;
 use crate::numbered::{has_held, place_of_held, place_of_issued};
-use crate::used::Used;
-use fs_ident::{FileId, List, Memory, PathNo, TxnNo};
+use fs_ident::{FileId, List, Memory, PathNo};
 use fs_map::FileMap;
 use std::alloc::Global;
 
@@ -53,11 +51,11 @@ fn walk_issued_to(issued: &[Issued], no: PathNo) -> Option<u8>
 }
 
 /// Whether the lease of the number is had.
-pub(crate) fn holds(held: &[Having], own: &FileIndex, no: PathNo) -> bool
-    requires { IsOwn own.now held.now }
+pub(crate) fn holds(held: &[Having], had: &HeldIndex, no: PathNo) -> bool
+    requires { IsHad had.now held.now }
     ensures { result ≡ holds no held.now }
 {
-    if own.is_whole() {
+    if had.own.is_whole() {
         has_held(held, no)
     } else {
         walk_holds(held, no)
@@ -78,11 +76,11 @@ fn walk_holds(held: &[Having], no: PathNo) -> bool
 }
 
 /// The server from which the lease of the number is had.
-pub(crate) fn held_from(held: &[Having], own: &FileIndex, no: PathNo) -> Option<u8>
-    requires { IsOwn own.now held.now }
+pub(crate) fn held_from(held: &[Having], had: &HeldIndex, no: PathNo) -> Option<u8>
+    requires { IsHad had.now held.now }
     ensures { result ≡ held_from no held.now }
 {
-    if own.is_whole() {
+    if had.own.is_whole() {
         found_held_from(held, no)
     } else {
         walk_held_from(held, no)
@@ -183,27 +181,33 @@ fn walk_first_issued(issued: &[Issued], map: &FileMap, me: u8, prefix: &FileId) 
 }
 
 /// The first one from another server whose path does.
+pub(crate) fn first_held(
+    held: &[Having],
+    via: &FileIndex,
+    map: &FileMap,
+    me: u8,
+    prefix: &FileId,
+) -> Option<PathNo>
+    requires { IsVia via.now held.now }
+    ensures { result ≡ option_map (λ h. (lease_of h).no)
+        (find (λ h. goes_into map.now me prefix.now (lease_of h)) held.now) }
+{
+    if via.is_whole() {
+        via.least_into(map, me, prefix)
+    } else {
+        walk_first_held(held, map, me, prefix)
+    }
+}
+
+/// That one, found path after path.
 #[tactic(auto, using(crate::proofs::Steps::find_step))]
-pub(crate) fn first_held(held: &[Having], map: &FileMap, me: u8, prefix: &FileId) -> Option<PathNo>
+fn walk_first_held(held: &[Having], map: &FileMap, me: u8, prefix: &FileId) -> Option<PathNo>
     ensures { result ≡ option_map (λ h. (lease_of h).no)
         (find (λ h. goes_into map.now me prefix.now (lease_of h)) held.now) }
 {
     for h in held {
         if h.goes_into(map, me, prefix) {
             return Some(h.no());
-        }
-    }
-    None
-}
-
-/// The first transaction that keeps the file.
-#[tactic(auto, using(crate::proofs::Steps::find_step))]
-pub(crate) fn frozen_for(frozen: &[(FileId, TxnNo)], file: &FileId) -> Option<TxnNo>
-    ensures { result ≡ frozen_for file.now frozen.now }
-{
-    for kept in frozen {
-        if &kept.0 == file {
-            return Some(kept.1);
         }
     }
     None

@@ -1,14 +1,15 @@
 //! The path of a file, as its server knows it.
 ghost use Rattle.std.specs.Prelude.{◌≡◌, ◌++◌, [], true, Some, IfOk, option_map};
-ghost use Rattle.fs_path.specs.Index.{IsOwn, are_rising, if_used, no_of_held, used_named, used_of};
+ghost use Rattle.fs_path.specs.Index.{IsHad, are_rising, if_used, no_of_held, used_named, used_of};
+ghost use Rattle.fs_path.specs.Kept.{IsKept};
 ghost use Rattle.fs_path.specs.Walk.{at_top, path_of, used_for};
 ghost use Rattle.fs_path.specs.declared.having.Having.TheVariants.{Held};
 ghost use Rattle.fs_path.specs.declared.used.Used.{Used as TheUsed};
 
 use crate::having::Having;
-use crate::index::FileIndex;
+use crate::held_index::HeldIndex;
+use crate::kept::{KeptIndex, frozen_for};
 use crate::numbered::place_of_held;
-use crate::reads::frozen_for;
 use crate::rise::{Rise, rise_at};
 use crate::used::Used;
 use fs_field::PathAnswer;
@@ -20,12 +21,14 @@ use std::alloc::Global;
 pub(crate) fn path_of(
     alloc: Global,
     held: &[Having],
-    own: &FileIndex,
+    had: &HeldIndex,
     frozen: &[(FileId, TxnNo)],
+    kept: &KeptIndex,
     records: &Records,
     file: &FileId,
 ) -> Result<PathAnswer, Memory>
-    requires { IsOwn own.now held.now }
+    requires had { IsHad had.now held.now }
+    requires kept { IsKept kept.now frozen.now }
     ensures { IfOk result (λ a. a ≡ path_of
         (record { issued = []; held = held.now; frozen = frozen.now }) records.now file.now) }
 {
@@ -37,7 +40,7 @@ pub(crate) fn path_of(
             records,
             &at,
             below.as_slice(),
-            frozen_for(frozen, &at),
+            frozen_for(frozen, kept, &at),
         )? {
             Rise::Frozen(txn) => return Ok(PathAnswer::Frozen { file: at, txn }),
             Rise::Ends => {
@@ -45,7 +48,7 @@ pub(crate) fn path_of(
                 return Ok(PathAnswer::Path(below));
             }
             Rise::Topmost(parent) => {
-                return at_top(alloc, held, own, at, parent, below.as_slice());
+                return at_top(alloc, held, had, at, parent, below.as_slice());
             }
             Rise::On(parent) => {
                 below.insert(0, at)?;
@@ -59,27 +62,27 @@ pub(crate) fn path_of(
 fn at_top(
     alloc: Global,
     held: &[Having],
-    own: &FileIndex,
+    had: &HeldIndex,
     file: FileId,
     parent: FileId,
     below: &[FileId],
 ) -> Result<PathAnswer, Memory>
-    requires { IsOwn own.now held.now }
+    requires { IsHad had.now held.now }
     ensures { IfOk result (λ a. a ≡ at_top (used_for file held.now) file parent below.now) }
 {
-    match used_for(held, own, &file) {
+    match used_for(held, had, &file) {
         Some(used) => Ok(PathAnswer::Path(joined(alloc, used.path(), below)?)),
         None => Ok(PathAnswer::Wanted { file, parent }),
     }
 }
 
 /// The first lease for the file that does not leave: it is used now.
-fn used_for<'a>(held: &'a [Having], own: &FileIndex, file: &FileId) -> Option<Used<'a>>
-    requires { IsOwn own.now held.now }
+fn used_for<'a>(held: &'a [Having], had: &HeldIndex, file: &FileId) -> Option<Used<'a>>
+    requires { IsHad had.now held.now }
     ensures { option_map (λ (u : TheUsed). Held u.lease.now) result ≡ used_for file.now held.now }
 {
-    if own.is_whole() {
-        used_named(held, own.at(file))
+    if had.own.is_whole() {
+        used_named(held, had.own.at(file))
     } else {
         walk_used(held, file)
     }

@@ -78,15 +78,30 @@ fn script(alloc: Global) -> Result<List<Script>, Fail>
     Ok(script)
 }
 
-/// The lines of the client and those of the server, after so many turns of each.
-fn lines_of(alloc: Global, turns: u64, client: &mut ClientNode) -> Result<Vec<u8>, Fail> {
-    let mut server = ServerNode::new(alloc, 0, 10, 1000, peers(alloc)?, List::new(alloc))?;
-    let mut up = Said::new(alloc);
-    let mut down = Said::new(alloc);
+/// So many turns of each: what the client has said, and what the server has.
+fn take_turns(
+    alloc: Global,
+    turns: u64,
+    client: &mut ClientNode,
+    server: &mut ServerNode,
+    up: &mut Said,
+    down: &mut Said,
+) -> Result<(), Fail> {
     for _ in 0..turns {
-        takes_turn(alloc, client, SERVER, &mut down, &mut up)?;
-        takes_turn(alloc, &mut server, CLIENT, &mut up, &mut down)?;
+        takes_turn(alloc, client, SERVER, down, up)?;
+        takes_turn(alloc, server, CLIENT, up, down)?;
     }
+    Ok(())
+}
+
+/// The last lines of the client, and then all lines of the server, join those of the client.
+fn add_endings(
+    alloc: Global,
+    turns: u64,
+    client: &ClientNode,
+    up: &mut Said,
+    down: &Said,
+) -> Result<(), Fail> {
     let counts = Counts {
         turns,
         receive_faults: 0,
@@ -95,7 +110,28 @@ fn lines_of(alloc: Global, turns: u64, client: &mut ClientNode) -> Result<Vec<u8
     let ending = client.ending(alloc, &counts)?;
     up.lines.extend_from_slice(ending.as_slice())?;
     up.lines.extend_from_slice(down.lines.as_slice())?;
+    Ok(())
+}
+
+/// The lines of the client and those of the server, after so many turns of each.
+fn lines_of(
+    alloc: Global,
+    turns: u64,
+    client: &mut ClientNode,
+    server: &mut ServerNode,
+) -> Result<Vec<u8>, Fail> {
+    let mut up = Said::new(alloc);
+    let mut down = Said::new(alloc);
+    take_turns(alloc, turns, client, server, &mut up, &mut down)?;
+    add_endings(alloc, turns, client, &mut up, &down)?;
     Ok(up.lines)
+}
+
+/// The same, of a server that is made for it.
+fn lines_with(alloc: Global, turns: u64, client: &mut ClientNode) -> Result<Vec<u8>, Fail> {
+    let peers = peers(alloc)?;
+    let mut server = ServerNode::new(alloc, 0, 10, 1000, peers, List::new(alloc))?;
+    lines_of(alloc, turns, client, &mut server)
 }
 
 #[test]
@@ -103,7 +139,7 @@ fn what_a_server_leads_is_one_line(rt: HostRuntime) -> Result<(), Fail> {
     let alloc = rt.alloc();
     let made = ClientNode::new(alloc, Session(1), 1000, peers(alloc)?, script(alloc)?);
     let mut client = made?;
-    let lines = lines_of(alloc, 40, &mut client);
+    let lines = lines_with(alloc, 40, &mut client);
     client.discard();
     let wanted = b"c1 1 create / \"a\" file /1 made\n\
         c1 2 delete / \"a\" deleted\n\

@@ -1,9 +1,9 @@
 use Rattle.std.proofs.Common.{ap, subst, sym, ◌∙◌}
 use Rattle.std.specs.Prelude.{slice_set}
-use Rattle.fs_path.specs.Index.{IsOwn, is_numbered, no_of_held}
+use Rattle.fs_path.specs.Index.{IsHad, is_numbered, no_of_held}
 use Rattle.fs_path.specs.Returns.{is_needed}
 use Rattle.fs_path.specs.Tables.{leaving}
-use Rattle.fs_path.proofs.Own.{leaving_own, left_there, none_there, went_there}
+use Rattle.fs_path.proofs.Own.{leaving_had, left_there, none_there, went_there}
 use Rattle.fs_path.proofs.Rising.{at_number}
 use Rattle.fs_path.proofs.giving.give_found_back.Goals as goal
 
@@ -16,10 +16,10 @@ returns-then-is_needed-clause-held c =
     ∙ ap (λ h. slice_set held c.in-Some.at (leaving h)) c.index.ensures
     ∙ sym (left_there c.args.no c.args.issued.now held c.in-Some.at c.index.result.now c.requires.rising there.0 there.1 needed)
 
-pub returns-then-is_needed-clause-own : goal.returns-then-is_needed-clause-own
-returns-then-is_needed-clause-own c =
-    subst (λ hs. IsOwn c.args.own.now hs) (sym (c.leave_at.ensures.set c.index.result.now c.index.ensures))
-    (leaving_own c.args.held.now.items c.in-Some.at c.index.result.now c.args.own.now c.requires.own c.index.ensures)
+pub returns-then-is_needed-clause-had : goal.returns-then-is_needed-clause-had
+returns-then-is_needed-clause-had c =
+    subst (λ hs. IsHad c.args.had.now hs) (sym (c.leave_at.ensures.set c.index.result.now c.index.ensures))
+    (leaving_had c.args.held.now.items c.in-Some.at c.index.result.now c.args.had.now c.requires.had c.index.ensures)
 
 pub returns-else-is_needed-clause-held : goal.returns-else-is_needed-clause-held
 returns-else-is_needed-clause-held c =

@@ -17,5 +17,5 @@ loop-at-preserved-then-frees c =
           ap (λ hs. take at hs ++ filter (λ h. not (goes_back (asks c.args.asked.now) c.args.issued.now h)) (drop at hs)) c.drop_held.ensures.held
           ∙ passed (λ h. not (goes_back (asks c.args.asked.now) c.args.issued.now h)) held at c.index.result.now inside c.index.ensures (ap not freed)
           ∙ c.loop-at.invariant.kept;
-      own = c.drop_held.ensures.own;
+      had = c.drop_held.ensures.had;
     }

@@ -1,7 +1,6 @@
-use Rattle.fs_ident.proofs.MapsOf.{map_of_remove}
 use Rattle.fs_path.specs.Index.{without_named}
 use Rattle.fs_path.proofs.ByFile.{emptied_at}
 use Rattle.fs_path.proofs.index.forget_at.Goals as goal
 
 pub returns-then-thin : goal.returns-then-thin
-returns-then-thin c = emptied_at (without_named c.args.no) _ _ _ c.args.file.now c.thin.ensures.changed (c.thin.ensures.empty c.if-thin.true) (map_of_remove _ _ _ c.remove.ensures.updates)
+returns-then-thin c = emptied_at (without_named c.args.no) _ _ _ c.args.file.now c.thin.ensures.changed (c.thin.ensures.empty c.if-thin.true) c.take_file.ensures
